@@ -1,0 +1,4 @@
+pub mod Path
+pub mod Hierarchy
+pub mod Laws
+pub mod Meaning

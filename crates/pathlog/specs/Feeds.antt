@@ -5,7 +5,7 @@ use mathlib.Core.List.{List}
 use lib.ListN.{length}
 use Rattle.std.specs.Results.{Cases}
 use Rattle.std.specs.declared.result.Result.{Result}
-use Rattle.std.specs.declared.result.Result.the-variants.{Ok, Err}
+use Rattle.std.specs.declared.result.Result.the-variants.{Err}
 use Rattle.refusal.specs.declared.Refusal.the-variants.{StartPastEnd}
 use Rattle.refusal.specs.declared.Layer.the-variants.{Reader}
 use Rattle.refusal.specs.Numbers.{layerOf}

@@ -1,6 +1,5 @@
 // Feeding a path log to a summary: each line is an add, until one is refused. What was counted before a refusal stays
 // counted, so a log that is mended can be taken up again at the offset that the refusal names.
-ghost use mathlib.Core.Path.{_≡_};
 ghost use Prim.Native.Nat.{_≤_, _<_};
 ghost use lib.ListN.{length};
 ghost use Rattle.std.specs.Results.{Cases};

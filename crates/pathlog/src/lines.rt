@@ -1,6 +1,5 @@
 // One line of a path log. What is refused is checked in a fixed order, so that a line with several faults always gets
 // the same number: the line feed, the leading '/', the path's length, its bytes, its segments, and then the weight.
-ghost use mathlib.Core.Path.{_≡_};
 ghost use Prim.Native.Nat.{_≤_, _<_};
 ghost use lib.ListN.{length};
 ghost use Rattle.std.specs.Results.{Cases};

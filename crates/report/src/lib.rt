@@ -1,11 +1,14 @@
 // The path report as a function from the input's bytes to the text that is printed: a first line of settings, then a
 // path log, and out come the total, the error and the heavy paths, or one line that names a refusal.
 ghost use mathlib.Core.Path.{_≡_};
-ghost use Prim.Native.Nat.{_≤_};
-ghost use lib.ListN.{length, take};
+ghost use lib.ListN.{take};
 ghost use Rattle.std.specs.Of.String.{string-bytes};
 ghost use Rattle.std.specs.Results.{Cases};
+ghost use Rattle.std.specs.Slices.{found};
 ghost use Rattle.std.specs.Vec.{made};
+ghost use Rattle.std.specs.Options.{mapped};
+ghost use Rattle.std.specs.declared.option.Option.the-variants.{Some, None};
+ghost use Rattle.report.specs.Header.{split, pairOf, pairRefusal, headerRefusal};
 ghost use Rattle.report.specs.Text.{refusedText, totalText, Extends, IsReport};
 use fields::index_of;
 use fields::read_weight;
@@ -16,7 +19,6 @@ use pathlog::feed;
 use paths::Paths;
 use paths::PathsOrder;
 use paths::Place;
-use prefix::Hierarchy;
 use refusal::Refusal;
 use settings::Settings;
 use std::alloc::AllocError;
@@ -41,39 +43,35 @@ pub fn within_limit(input: &[u8]) -> &[u8]
     }
 }
 
-// What the first line says, and where the log begins behind it.
-#[derive(Clone, Copy)]
-struct Header {
-    settings: Settings,
-    log: usize,
+// The bytes before the first such byte, and those behind it.
+fn split_once(bytes: &[u8], byte: u8) -> Option<(&[u8], &[u8])>
+    ensures { λ r. ⌜ mapped (λ p. (now (p .0), now (p .1))) r ≡ split byte (now (bytes .entry)) ⌝ }
+{
+    let at = index_of(bytes, byte);
+    if at == bytes.len() {
+        return None;
+    }
+    Some((&bytes[0..at], &bytes[at + 1..bytes.len()]))
 }
 
 // The two weights of a line, with one space between.
-fn read_pair(line: &[u8]) -> Option<(u32, u32)> {
-    let middle = index_of(line, b' ');
-    if middle == line.len() {
-        return None;
-    }
-    let first = read_weight(&line[0..middle])?;
-    let second = read_weight(&line[middle + 1..line.len()])?;
-    Some((first, second))
+fn read_pair(line: &[u8]) -> Option<(u32, u32)>
+    ensures { λ r. ⌜ r ≡ pairOf (now (line .entry)) ⌝ }
+{
+    let (first, second) = split_once(line, b' ')?;
+    let width = read_weight(first)?;
+    let share = read_weight(second)?;
+    Some((width, share))
 }
 
-fn read_header(input: &[u8]) -> Result<Header, Refusal>
-    ensures { λ r. ⌜ Cases r (λ h. h .log ≤ length (now (input .entry))) (λ _. Unit {0}) ⌝ }
+// The settings that the first line says.
+fn read_settings(line: &[u8]) -> Result<Settings, Refusal>
+    ensures { λ r. ⌜ Cases r (λ _. pairRefusal (pairOf (now (line .entry))) ≡ None) (λ e. pairRefusal (pairOf (now (line .entry))) ≡ Some e) ⌝ }
 {
-    let end = index_of(input, b'\n');
-    if end == input.len() {
-        return Err(Refusal::WeightMalformed);
-    }
-    let Some((width, share)) = read_pair(&input[0..end]) else {
+    let Some((width, share)) = read_pair(line) else {
         return Err(Refusal::WeightMalformed);
     };
-    let settings = Settings::new(width, share)?;
-    Ok(Header {
-        settings,
-        log: end + 1,
-    })
+    Settings::new(width, share)
 }
 
 // The one line of a report that is refused.
@@ -164,10 +162,14 @@ fn report_log(
 
 // The text that the path program prints for its input.
 pub fn path_report(heap: Global, input: &[u8]) -> Result<String, AllocError>
-    ensures { λ r. ⌜ made r (λ t. IsReport (string-bytes t)) ⌝ }
+    ensures form { λ r. ⌜ made r (λ t. IsReport (string-bytes t)) ⌝ }
+    ensures header { λ r. ⌜ made r (λ t. found (headerRefusal (now (input .entry))) (λ e. string-bytes t ≡ refusedText e)) ⌝ }
 {
-    let header = match read_header(input) {
-        Ok(header) => header,
+    let Some((line, log)) = split_once(input, b'\n') else {
+        return refused_text(heap, Refusal::WeightMalformed);
+    };
+    let settings = match read_settings(line) {
+        Ok(settings) => settings,
         Err(refusal) => return refused_text(heap, refusal),
     };
     let vacant = Node::vacant(Place {
@@ -175,11 +177,5 @@ pub fn path_report(heap: Global, input: &[u8]) -> Result<String, AllocError>
         length: 0,
     });
     let mut table = vec![in heap; vacant; TABLE_SLOTS]?;
-    let log = header.log;
-    report_log(
-        heap,
-        header.settings,
-        &input[log..input.len()],
-        table.as_mut_slice(),
-    )
+    report_log(heap, settings, log, table.as_mut_slice())
 }

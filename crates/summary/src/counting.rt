@@ -2,7 +2,7 @@
 // the fields, hand the table to functions over slices, and store what comes back.
 ghost use mathlib.Core.Path.{_≡_};
 ghost use Prim.Native.Nat.{_-_, min, _≤_, _<_};
-ghost use lib.ListN.{length, take};
+ghost use lib.ListN.{length};
 ghost use Rattle.model.specs.State.{opened, error as errorOf, mostSlots};
 ghost use Rattle.std.specs.Slices.{found};
 ghost use Rattle.model.specs.Answers.{SameTable, Adds, Sweeps, Bounds};
@@ -10,7 +10,7 @@ ghost use Rattle.summary.specs.Room.{HasRoom};
 ghost use Rattle.summary.specs.View.{view};
 use super::slots::bounds_in;
 use super::slots::climb_in;
-use super::slots::in_use;
+use super::slots::count_in_use;
 use super::slots::insert_in;
 use super::slots::next_in;
 use super::slots::raise_own;
@@ -68,13 +68,22 @@ impl<'a, K: Copy> Summary<'a, K> {
         self.total / u64::from(self.settings.width())
     }
 
+    // How many slots of the table are in use.
+    fn in_use(&mut self) -> usize
+        ensures same { λ _. ⌜ now (self .exit) ≡ now (self .entry) ⌝ }
+        ensures value { λ r. ⌜ r ≡ length (view (now (self .entry)) .nodes) ⌝ }
+        ensures bound { λ r. ⌜ r ≤ length (now (now (self .entry) .nodes)) ⌝ }
+    {
+        let used = self.used;
+        count_in_use(self.nodes, used)
+    }
+
     // Folds the light nodes into their parents, the deepest level first; answers how many.
     pub fn sweep<H: OrderedHierarchy<Key = K>>(&mut self, hierarchy: &H) -> usize
         ensures { λ r. ⌜ Sweeps (view (now (self .entry))) (view (now (self .exit))) r ⌝ }
     {
         let error = self.error();
-        let used = self.used;
-        let used = in_use(self.nodes, used);
+        let used = self.in_use();
         let swept = sweep_in(hierarchy, self.nodes, used, error);
         self.used = swept.kept;
         self.root.own = self.root.own.saturating_add(swept.own);
@@ -89,8 +98,7 @@ impl<'a, K: Copy> Summary<'a, K> {
         ensures nearest { λ r. ⌜ found (r .nearest) (λ i. i < length (view (now (self .entry)) .nodes)) ⌝ }
     {
         let root = self.root;
-        let used = self.used;
-        let used = in_use(self.nodes, used);
+        let used = self.in_use();
         climb_in(hierarchy, self.nodes, used, key, root)
     }
 
@@ -99,8 +107,7 @@ impl<'a, K: Copy> Summary<'a, K> {
         ensures same { λ _. ⌜ view (now (self .exit)) ≡ view (now (self .entry)) ⌝ }
         ensures value { λ r. ⌜ r ≡ view (now (self .entry)) .slots - length (view (now (self .entry)) .nodes) ⌝ }
     {
-        let used = self.used;
-        let used = in_use(self.nodes, used);
+        let used = self.in_use();
         self.nodes.len().min(MOST_SLOTS).saturating_sub(used)
     }
 
@@ -137,8 +144,7 @@ impl<'a, K: Copy> Summary<'a, K> {
         ensures table { λ _. ⌜ SameTable (view (now (self .entry))) (view (now (self .exit))) ⌝ }
         ensures total { λ _. ⌜ view (now (self .exit)) .total ≡ total ⌝ }
     {
-        let used = self.used;
-        let used = in_use(self.nodes, used);
+        let used = self.in_use();
         insert_in(hierarchy, self.nodes, used, key, ancestry);
         self.used = used + ancestry.missing;
         self.total = total;
@@ -198,8 +204,7 @@ impl<'a, K: Copy> Summary<'a, K> {
             return Err(Refusal::KeyNotValid);
         }
         let root = self.root;
-        let used = self.used;
-        let used = in_use(self.nodes, used);
+        let used = self.in_use();
         let (lower, upper) = bounds_in(hierarchy, self.nodes, used, root, key);
         Ok((lower, upper))
     }
@@ -225,8 +230,7 @@ impl<'a, K: Copy> Summary<'a, K> {
     {
         let threshold = self.threshold();
         let root = self.root;
-        let used = self.used;
-        let used = in_use(self.nodes, used);
+        let used = self.in_use();
         next_in(hierarchy, self.nodes, used, root, after, threshold)
     }
 }

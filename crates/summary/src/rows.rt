@@ -4,6 +4,7 @@
 ghost use mathlib.Core.Path.{_≡_};
 ghost use Prim.Native.Nat.{_≤_};
 ghost use Rattle.std.specs.Slices.{found};
+ghost use Rattle.std.specs.Vec.{made};
 ghost use Rattle.model.specs.Answers.{Bounds, RowsAfter};
 ghost use Rattle.summary.specs.View.{view};
 use super::counting::Summary;
@@ -49,6 +50,7 @@ impl<'a, K: Copy> Listing<'a, K> {
     ) -> Result<Option<Row<K>>, Refusal>
         ensures same { λ _. ⌜ view (now (self .exit) .summary) ≡ view (now (self .entry) .summary) ⌝ }
         ensures cases { λ r. ⌜ RowsAfter (H·Hierarchy .means (now (hierarchy .entry))) key r ⌝ }
+        ensures low { λ r. ⌜ made r (λ next. found next (λ row. row .lower ≤ row .upper)) ⌝ }
     {
         if !hierarchy.is_valid(key) {
             return Err(Refusal::KeyNotValid);

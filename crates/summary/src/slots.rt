@@ -19,7 +19,7 @@ use table::climb;
 use table::insert_missing;
 
 // How many slots of the table are in use.
-pub(crate) fn in_use<K: Copy>(nodes: &mut [Node<K>], used: usize) -> usize
+pub(crate) fn count_in_use<K: Copy>(nodes: &mut [Node<K>], used: usize) -> usize
     ensures value { λ r. ⌜ r ≡ length (take used (now (nodes .entry))) ⌝ }
     ensures same { λ _. ⌜ now (nodes .exit) ≡ now (nodes .entry) ⌝ }
     ensures bound { λ r. ⌜ r ≤ length (now (nodes .entry)) ⌝ }

@@ -2,7 +2,7 @@
 // node to the first settles the levels from the deepest up: what the children hand up waits in a carry for each level
 // until their parent is reached. The kept nodes gather at the end of the used slots and are then moved to the front.
 ghost use mathlib.Core.Path.{_≡_};
-ghost use Prim.Native.Nat.{_+_, _≤_, _<_};
+ghost use Prim.Native.Nat.{_≤_, _<_};
 ghost use lib.ListN.{length};
 use model::Node;
 use prefix::Hierarchy;

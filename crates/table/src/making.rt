@@ -1,6 +1,5 @@
 // Making the missing nodes of a key. They stand next to each other in name order, and all start from one ceiling, that
 // of the nearest stored ancestor: it bounds what was counted there before they were stored.
-ghost use mathlib.Core.Path.{_≡_};
 ghost use Prim.Native.Nat.{min};
 ghost use lib.ListN.{length};
 ghost use Rattle.std.specs.Places.{Every};

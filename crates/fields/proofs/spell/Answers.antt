@@ -1,5 +1,4 @@
 use mathlib.Core.Path.{sym, _∙_}
-use borrow.Author.Needs.{needs}
 use Rattle.std.proofs.shelf.Tests.{cond-false}
 use Rattle.fields.proofs.Digits.{no-digit, one-more, all-read}
 use Rattle.fields.proofs.spell.Needs as need

@@ -1,7 +1,7 @@
 use borrow.Author.Needs.{needs}
 use mathlib.Core.Path.{sym, _∙_}
 use lib.ListN.{length-take}
-use Rattle.summary.proofs.slots.in_use.Needs as need
+use Rattle.summary.proofs.slots.count_in_use.Needs as need
 
 pub returns : need.returns
 returns g c =

@@ -7,39 +7,12 @@ use mathlib.Core.Bool.{Bool, true, false, _&&_, _||_}
 use lib.Dec.{ltb, eqb}
 use native.Mathlib.Omega.{arith}
 use Rattle.std.specs.Orderings.{Decides}
-use Rattle.std.proofs.shelf.Tests.{and-parts, and-from, cases-bool, eqb-true, eq-eqb, ne-eqb, lt-ltb, le-ltb, cases-lt, false≢true, cond-true, cond-false}
+use Rattle.std.proofs.shelf.Tests.{and-parts, cases-bool, eqb-true, ne-eqb, lt-ltb, le-ltb, cases-lt, false≢true, cond-true, cond-false}
 use Rattle.std.proofs.shelf.Ways.{same-from-decides}
 use Rattle.prefix.specs.Name.{Step, Name, sameStep, sameName, stepBefore, nameBefore}
+use Rattle.prefix.proofs.Names.{name-same, name-refl}
 use Rattle.paths.specs.Path.{slash, headOf, stepsOf, isEmpty, classOf, mayStand, allStand, isPart, rankOf, rankedBefore}
 use Rattle.paths.specs.Laws.{at-slash, past-slash, head-at-slash, head-past-slash, part-holds}
-
--- `sameName` is equality
-
-step-same : (s t : Step) → sameStep s t ≡ true → s ≡ t
-step-same [] [] e = refl
-step-same [] (b ∷ t) e = absurd (false≢true e)
-step-same (a ∷ s) [] e = absurd (false≢true e)
-step-same (a ∷ s) (b ∷ t) e =
-    let h = and-parts (eqb a b) (sameStep s t) e in
-    let p = eqb-true a b (h .0) in
-    let q = step-same s t (h .1) in cc
-
-step-refl : (s : Step) → sameStep s s ≡ true
-step-refl [] = refl
-step-refl (a ∷ s) = and-from (eqb a a) (sameStep s s) (eq-eqb a a refl) (step-refl s)
-
-name-same : (p q : Name) → sameName p q ≡ true → p ≡ q
-name-same [] [] e = refl
-name-same [] (t ∷ q) e = absurd (false≢true e)
-name-same (s ∷ p) [] e = absurd (false≢true e)
-name-same (s ∷ p) (t ∷ q) e =
-    let h = and-parts (sameStep s t) (sameName p q) e in
-    let x = step-same s t (h .0) in
-    let y = name-same p q (h .1) in cc
-
-name-refl : (p : Name) → sameName p p ≡ true
-name-refl [] = refl
-name-refl (s ∷ p) = and-from (sameStep s s) (sameName p p) (step-refl s) (name-refl p)
 
 -- the bytes of a part, put together again from its steps
 

@@ -28,9 +28,13 @@ pathName text k = cond (isPath text k) (stepsOf (bytesAt text k)) []
 abbrev pub rootPlace : Place
 rootPlace = record { offset = 0; length = 0 }
 
--- the same offset without the last segment; a key that is not valid is its own parent
+-- the place of bytes without their last segment: the same offset, up to the last '/'
+abbrev pub shortened : List ℕ → Place → Place
+shortened bytes k = record { offset = k .offset; length = lastSlash bytes }
+
+-- a key that is not valid is its own parent
 abbrev pub parentPlace : List ℕ → Place → Place
-parentPlace text k = cond (isPath text k) (record { offset = k .offset; length = lastSlash (bytesAt text k) }) k
+parentPlace text k = cond (isPath text k) (shortened (bytesAt text k) k) k
 
 -- the bytes at a place that lies in the text, else none
 abbrev pub bytesIn : List ℕ → Place → List ℕ

@@ -10,6 +10,7 @@ use native.Mathlib.Omega.{arith}
 use Rattle.std.proofs.shelf.Tests.{and-parts, and-from, cases-bool, leb-true, le-leb, false≢true, both-ways, or-parts, or-from, cond-true, cond-false}
 use Rattle.std.proofs.shelf.Lists.{take-take}
 use Rattle.prefix.specs.Name.{Step, Name, parentName}
+use Rattle.prefix.proofs.Names.{parent-level}
 use Rattle.paths.specs.declared.Place.{Place}
 use Rattle.paths.specs.Path.{slash, headOf, stepsOf, isEmpty, classOf, mayStand, allStand, noneEmpty, isSegments, isPart, hasSlash, lastSlash}
 use Rattle.paths.specs.Hierarchy.{bytesAt, lies, isPath, pathName, rootPlace, parentPlace}
@@ -46,11 +47,6 @@ parent-noneEmpty (s ∷ []) e = refl
 parent-noneEmpty (s ∷ (t ∷ q)) e =
     let h = and-parts (not (isEmpty s)) (noneEmpty (t ∷ q)) e in
     and-from (not (isEmpty s)) (noneEmpty (parentName (t ∷ q))) (h .0) (parent-noneEmpty (t ∷ q) (h .1))
-
-parent-no-longer : (p : Name) → length (parentName p) ≤ length p
-parent-no-longer [] = omega arith
-parent-no-longer (s ∷ []) = omega arith
-parent-no-longer (s ∷ (t ∷ q)) = omega (arith, parent-no-longer (t ∷ q))
 
 -- a step before the last is followed by another
 parent-cons : (s : Step) (p : Name) → isEmpty p ≡ false → parentName (s ∷ p) ≡ s ∷ parentName p
@@ -157,7 +153,7 @@ cut-part bs e =
     let steps = cut-steps bs in
     part-from (take n bs) (front-headless n bs (h .0)) (front-stands n bs (h .1))
     (ap noneEmpty steps ∙ parent-noneEmpty (stepsOf bs) (h .2))
-    (omega (arith, ap length steps, parent-no-longer (stepsOf bs), h .3))
+    (omega (arith, ap length steps, parent-level (stepsOf bs), h .3))
 
 -- the laws
 

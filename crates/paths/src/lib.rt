@@ -4,10 +4,11 @@
 // puts the hierarchy together, with its laws from specs/Laws.
 ghost use mathlib.Core.Path.{_≡_};
 ghost use mathlib.Core.Bool.{true};
+ghost use lib.ListN.{length};
 ghost use denote.Ref.{now as held};
 ghost use Rattle.prefix.specs.Name.{sameName, nameBefore};
 ghost use Rattle.paths.specs.Path.{classOf, isPart, stepsOf, segmentCount, lastSlash, rankOf, rankedBefore};
-ghost use Rattle.paths.specs.Hierarchy.{lies, bytesIn, pathName};
+ghost use Rattle.paths.specs.Hierarchy.{lies, bytesIn, isPath, pathName, rootPlace, shortened, parentPlace};
 ghost use Rattle.paths.specs.Meaning.{pathMeaning};
 use prefix::Hierarchy;
 use prefix::OrderedHierarchy;
@@ -156,6 +157,16 @@ impl<'a> Paths<'a> {
         }
     }
 
+    // The place up to where its last segment starts.
+    fn without_last_segment(&self, key: Place) -> Place
+        ensures { λ r. ⌜ r ≡ shortened (bytesIn (now (now (self .entry) .text)) key) key ⌝ }
+    {
+        Place {
+            offset: key.offset,
+            length: last_slash(self.part(key)),
+        }
+    }
+
     // The bytes of a path; none where the key is not valid. Either way they are a part, whose steps are the key's name.
     fn path(&self, key: Place) -> &'a [u8]
         ensures sound { λ r. ⌜ isPart (now r) ≡ true ⌝ }
@@ -169,6 +180,8 @@ impl<'a> Paths<'a> {
     }
 }
 
+// Each answer is said here by the name of the key itself, and not only by what `means` calls its name: a hierarchy whose
+// keys all mean the root would meet the trait's contracts.
 pub impl<'a> Hierarchy for Paths<'a> as PathsHierarchy {
     type Key = Place;
 
@@ -176,42 +189,54 @@ pub impl<'a> Hierarchy for Paths<'a> as PathsHierarchy {
 
     ghost means = { λ paths. pathMeaning (held (paths .text)) };
 
-    fn depth_limit(&self) -> usize {
-        PATH_DEPTH
+    fn depth_limit(&self) -> usize
+        ensures { λ r. ⌜ r ≡ 8 ⌝ }
+    {
+        Self::DEPTH
     }
 
-    fn root(&self) -> Place {
+    fn root(&self) -> Place
+        ensures { λ r. ⌜ r ≡ rootPlace ⌝ }
+    {
         Place {
             offset: 0,
             length: 0,
         }
     }
 
-    fn is_valid(&self, key: Place) -> bool {
+    fn is_valid(&self, key: Place) -> bool
+        ensures { λ r. ⌜ r ≡ isPath (now (now (self .entry) .text)) key ⌝ }
+    {
         self.holds(key) && segments(self.part(key)).is_some()
     }
 
-    fn level(&self, key: Place) -> usize {
+    fn level(&self, key: Place) -> usize
+        ensures { λ r. ⌜ r ≡ length (pathName (now (now (self .entry) .text)) key) ⌝ }
+    {
         segments(self.part(key)).unwrap_or(0)
     }
 
-    fn parent(&self, key: Place) -> Place {
-        if !self.is_valid(key) {
-            return key;
-        }
-        Place {
-            offset: key.offset,
-            length: last_slash(self.part(key)),
+    fn parent(&self, key: Place) -> Place
+        ensures { λ r. ⌜ r ≡ parentPlace (now (now (self .entry) .text)) key ⌝ }
+    {
+        if self.is_valid(key) {
+            self.without_last_segment(key)
+        } else {
+            key
         }
     }
 
-    fn same(&self, one: Place, other: Place) -> bool {
+    fn same(&self, one: Place, other: Place) -> bool
+        ensures { λ r. ⌜ r ≡ sameName (pathName (now (now (self .entry) .text)) one) (pathName (now (now (self .entry) .text)) other) ⌝ }
+    {
         same_steps(self.path(one), self.path(other))
     }
 }
 
 pub impl<'a> OrderedHierarchy for Paths<'a> as PathsOrder {
-    fn before(&self, one: Place, other: Place) -> bool {
+    fn before(&self, one: Place, other: Place) -> bool
+        ensures { λ r. ⌜ r ≡ nameBefore (pathName (now (now (self .entry) .text)) one) (pathName (now (now (self .entry) .text)) other) ⌝ }
+    {
         comes_before(self.path(one), self.path(other))
     }
 }

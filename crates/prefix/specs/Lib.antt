@@ -1,2 +1,4 @@
+pub mod Order
 pub mod Name
 pub mod Meaning
+pub mod Laws

@@ -1,8 +1,11 @@
 -- Names of prefixes: a name is a list of steps, a step is a list of bytes.
 use Prim.Native.Nat.{ℕ}
 use mathlib.Core.List.{List, [], _∷_}
-use mathlib.Core.Bool.{Bool, true, false, _&&_, _||_}
+use mathlib.Core.Bool.{Bool, cond, not, _&&_}
 use lib.Dec.{ltb, eqb}
+use Rattle.std.specs.declared.cmp.Ordering.{Ordering}
+use Rattle.std.specs.declared.cmp.Ordering.the-variants.{Less, Equal, Greater}
+use Rattle.prefix.specs.Order.{sameBy, frontBy, beforeBy}
 
 abbrev pub Step : Type 0
 Step = List ℕ
@@ -11,30 +14,29 @@ abbrev pub Name : Type 0
 Name = List Step
 
 abbrev pub sameStep : Step → Step → Bool
-sameStep [] [] = true
-sameStep [] (b ∷ y) = false
-sameStep (a ∷ x) [] = false
-sameStep (a ∷ x) (b ∷ y) = eqb a b && sameStep x y
+sameStep = sameBy eqb
 
 abbrev pub sameName : Name → Name → Bool
-sameName [] [] = true
-sameName [] (t ∷ q) = false
-sameName (s ∷ p) [] = false
-sameName (s ∷ p) (t ∷ q) = sameStep s t && sameName p q
+sameName = sameBy sameStep
 
 -- byte by byte, unsigned; a proper front part comes first
 abbrev pub stepBefore : Step → Step → Bool
-stepBefore [] [] = false
-stepBefore [] (b ∷ y) = true
-stepBefore (a ∷ x) [] = false
-stepBefore (a ∷ x) (b ∷ y) = ltb a b || (eqb a b && stepBefore x y)
+stepBefore = beforeBy eqb ltb
 
 -- step by step; a proper front part comes first
 abbrev pub nameBefore : Name → Name → Bool
-nameBefore [] [] = false
-nameBefore [] (t ∷ q) = true
-nameBefore (s ∷ p) [] = false
-nameBefore (s ∷ p) (t ∷ q) = stepBefore s t || (sameStep s t && nameBefore p q)
+nameBefore = beforeBy sameStep stepBefore
+
+abbrev pub orderOf : Name → Name → Ordering
+orderOf p q = cond (nameBefore p q) Less (cond (sameName p q) Equal Greater)
+
+-- the second name lies at or beneath the first: the first is a front part of it, or the same
+abbrev pub covers : Name → Name → Bool
+covers = frontBy sameStep
+
+-- the second name lies beneath the first: the first is a proper front part of it
+abbrev pub above : Name → Name → Bool
+above p q = covers p q && not (sameName p q)
 
 -- the name without its last step; an empty name stays empty
 abbrev pub parentName : Name → Name

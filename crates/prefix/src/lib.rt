@@ -7,6 +7,11 @@ ghost use lib.ListN.{length};
 ghost use Rattle.prefix.specs.Name.{sameName, nameBefore};
 ghost use Rattle.prefix.specs.Meaning.{Meaning};
 
+mod relations;
+
+pub use relations::compare_names;
+pub use relations::lies_at_or_beneath;
+
 // The levels that a name may have in any hierarchy: the root's, and 1 to 32.
 pub const LEVELS: usize = 33;
 

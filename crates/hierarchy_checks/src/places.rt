@@ -153,7 +153,7 @@ fn steps_decide_the_order() -> Result<(), Fail> {
     Ok(())
 }
 
-// A longer segment is no part of a path beneath a shorter one.
+// Whole segments decide: `/a/b` lies beneath `/a`, and `/ab` does not.
 #[test]
 fn whole_segments_lie_beneath() -> Result<(), Fail> {
     let paths = Paths::new(b"/a/b/ab");

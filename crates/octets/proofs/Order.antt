@@ -14,12 +14,12 @@ use Rattle.std.proofs.shelf.Bits.{pow-pos, mod-pow-add, mod-below, mul-le}
 use Rattle.prefix.specs.Name.{Name, sameName, nameBefore}
 use Rattle.prefix.proofs.Names.{name-order}
 use Rattle.octets.specs.declared.AddressPrefix.{AddressPrefix}
-use Rattle.octets.specs.Octets.{octetAt, octetsOf, bitsAfter, isPrefix, octetName, addressBefore}
+use Rattle.octets.specs.Octets.{octetAt, octetsOf, isPrefix, octetName, addressBefore}
 use Rattle.octets.specs.Laws.{whole, valid-parts, valid-named}
 
--- by a number, and the smaller count first at one number
+-- two keys apart, with any numbers for their addresses and lengths
 numberBefore : ℕ → ℕ → ℕ → ℕ → Bool
-numberBefore a p b q = ltb a b || (eqb a b && ltb p q)
+numberBefore a p b q = addressBefore (record { address = a; length = p }) (record { address = b; length = q })
 
 -- the same in front of both
 after-same : (c a b p q : ℕ) → numberBefore (c + a) (suc p) (c + b) (suc q) ≡ numberBefore a p b q
@@ -55,11 +55,9 @@ none-last : (a p : ℕ) → numberBefore a (suc p) 0 0 ≡ false
 unfolding numberBefore
 none-last a p = grind (arith, tells)
 
-nothing-first : (w a : ℕ) → a % 2 ^ (8 * (w - 0)) ≡ 0 → a % 2 ^ (8 * w) ≡ 0
-nothing-first w a e = ap (λ n. a % 2 ^ n) (omega arith) ∙ e
-
-one-less : (w a p : ℕ) → a % 2 ^ (8 * (suc w - suc p)) ≡ 0 → a % 2 ^ (8 * (w - p)) ≡ 0
-one-less w a p e = ap (λ n. a % 2 ^ n) (omega arith) ∙ e
+-- zeros after so many bits, counted in another way
+zeros-at : (a m n : ℕ) → m ≡ n → a % 2 ^ n ≡ 0 → a % 2 ^ m ≡ 0
+zeros-at a m n e z = ap (λ k. a % 2 ^ k) e ∙ z
 
 first-octet : (w a : ℕ) → a % 2 ^ (8 * suc w) ≡ octetAt a w * 2 ^ (8 * w) + a % 2 ^ (8 * w)
 first-octet w a = ap (λ n. a % 2 ^ n) (omega arith) ∙ mod-pow-add a 8 (8 * w)
@@ -69,32 +67,28 @@ first-octet w a = ap (λ n. a % 2 ^ n) (omega arith) ∙ mod-pow-add a 8 (8 * w)
 octets-order : (w a b p q : ℕ) → p ≤ w → q ≤ w → a % 2 ^ (8 * (w - p)) ≡ 0 → b % 2 ^ (8 * (w - q)) ≡ 0 → nameBefore (take p (octetsOf w a)) (take q (octetsOf w b)) ≡ numberBefore (a % 2 ^ (8 * w)) p (b % 2 ^ (8 * w)) q
 unfolding numberBefore
 octets-order w a b zero zero hp hq ea eb =
-    let za = nothing-first w a ea in
-    let zb = nothing-first w b eb in
+    let za = zeros-at a (8 * w) (8 * (w - 0)) (omega arith) ea in
+    let zb = zeros-at b (8 * w) (8 * (w - 0)) (omega arith) eb in
     rw (za, zb)
 octets-order zero a b zero (suc q) hp hq ea eb = absurd (omega arith)
 octets-order (suc w) a b zero (suc q) hp hq ea eb =
-    let za = nothing-first (suc w) a ea in
+    let za = zeros-at a (8 * suc w) (8 * (suc w - 0)) (omega arith) ea in
     sym (none-first (b % 2 ^ (8 * suc w)) q) ∙ ap (λ n. numberBefore n 0 (b % 2 ^ (8 * suc w)) (suc q)) (sym za)
 octets-order zero a b (suc p) q hp hq ea eb = absurd (omega arith)
 octets-order (suc w) a b (suc p) zero hp hq ea eb =
-    let zb = nothing-first (suc w) b eb in
+    let zb = zeros-at b (8 * suc w) (8 * (suc w - 0)) (omega arith) eb in
     sym (none-last (a % 2 ^ (8 * suc w)) p) ∙ ap (λ n. numberBefore (a % 2 ^ (8 * suc w)) (suc p) n 0) (sym zb)
 octets-order (suc w) a b (suc p) (suc q) hp hq ea eb =
     let m = 2 ^ (8 * w) in
-    let rest = octets-order w a b p q (omega arith) (omega arith) (one-less w a p ea) (one-less w b q eb) in
+    let za = zeros-at a (8 * (w - p)) (8 * (suc w - suc p)) (omega arith) ea in
+    let zb = zeros-at b (8 * (w - q)) (8 * (suc w - suc q)) (omega arith) eb in
+    let rest = octets-order w a b p q (omega arith) (omega arith) za zb in
     octet-first m (octetAt a w) (octetAt b w) (a % m) (b % m) p q (nameBefore (take p (octetsOf w a)) (take q (octetsOf w b)))
     (mod-below a m (pow-pos (8 * w))) (mod-below b m (pow-pos (8 * w))) rest
     ∙ ap (λ n. numberBefore n (suc p) (octetAt b w * m + b % m) (suc q)) (sym (first-octet w a))
     ∙ ap (λ n. numberBefore (a % 2 ^ (8 * suc w)) (suc p) n (suc q)) (sym (first-octet w b))
 
 -- Valid keys
-
--- an address of at most so many octets
-zeros-after : (k : AddressPrefix) (c : ℕ) → k .length ≡ 8 * c → bitsAfter (k .address) (k .length) ≡ 0 → k .address % 2 ^ (8 * (4 - c)) ≡ 0
-zeros-after k c h e =
-    let n : 8 * (4 - c) ≡ 32 - k .length = omega arith in
-    ap (λ x. k .address % 2 ^ x) n ∙ e
 
 in-octets : (a b p q m n : ℕ) → m ≡ 8 * p → n ≡ 8 * q → numberBefore a p b q ≡ numberBefore a m b n
 unfolding numberBefore
@@ -109,8 +103,9 @@ prefix-order k l r small low e valid other =
     let q = whole (l .length) (g .0) in
     let name = valid-named k (p .count) valid (p .is) in
     let last = valid-named l (q .count) other (q .is) in
-    let ordered =
-    octets-order 4 (k .address) (l .address) (p .count) (q .count) (p .few) (q .few) (zeros-after k (p .count) (p .is) (h .1)) (zeros-after l (q .count) (q .is) (g .1)) in
+    let zeros = zeros-at (k .address) (8 * (4 - p .count)) (32 - k .length) (omega (arith, p .is)) (h .1) in
+    let nones = zeros-at (l .address) (8 * (4 - q .count)) (32 - l .length) (omega (arith, q .is)) (g .1) in
+    let ordered = octets-order 4 (k .address) (l .address) (p .count) (q .count) (p .few) (q .few) zeros nones in
     e ∙ sym (in-octets (k .address) (l .address) (p .count) (q .count) (k .length) (l .length) (p .is) (q .is))
     ∙ ap (λ n. numberBefore n (p .count) (l .address) (q .count)) (sym (mod-eq-of-lt small))
     ∙ ap (λ n. numberBefore (k .address % 2 ^ 32) (p .count) n (q .count)) (sym (mod-eq-of-lt low))

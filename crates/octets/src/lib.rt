@@ -8,11 +8,13 @@ ghost use lib.ListN.{length};
 ghost use lib.Dec.{ltb};
 ghost use Rattle.std.specs.declared.option.Option.the-variants.{Some, None};
 ghost use Rattle.prefix.specs.Name.{sameName, nameBefore};
-ghost use Rattle.octets.specs.Octets.{isLength, isPrefix, octetsOf, octetName, addressBefore, rootPrefix, prefixAt, parentPrefix, hostPrefix, prefixText};
+ghost use Rattle.octets.specs.Octets.{isLength, isPrefix, octetName, addressBefore, rootPrefix, prefixAt, parentPrefix, prefixText};
 ghost use Rattle.octets.specs.Meaning.{octetMeaning};
 use prefix::Hierarchy;
 use prefix::OrderedHierarchy;
 use std::fmt;
+
+mod hosts;
 
 // The most octets of an address.
 pub const OCTET_DEPTH: usize = 4;
@@ -20,7 +22,7 @@ pub const OCTET_DEPTH: usize = 4;
 // The bits of an octet.
 const OCTET_BITS: u8 = 8;
 
-// The first bits of an address.
+// The first `length` bits of an address. A valid key has none set after them.
 #[derive(Clone, Copy, Debug, PartialEq, Eq)]
 pub struct AddressPrefix {
     pub address: u32,
@@ -68,18 +70,6 @@ fn same_octets(one: AddressPrefix, other: AddressPrefix) -> bool
 pub struct Octets;
 
 impl Octets {
-    // The key of a host's address.
-    pub fn host(&self, address: u32) -> AddressPrefix
-        ensures value { λ r. ⌜ r ≡ hostPrefix address ⌝ }
-        ensures valid { λ r. ⌜ isPrefix r ≡ true ⌝ }
-        ensures named { λ r. ⌜ octetName r ≡ octetsOf 4 address ⌝ }
-    {
-        AddressPrefix {
-            address,
-            length: 32,
-        }
-    }
-
     // The length of the parent; none for the root and for a key that is not valid.
     fn length_above(&self, key: AddressPrefix) -> Option<u8>
         ensures { λ r. ⌜ r ≡ cond (isPrefix key && ltb 0 (key .length)) (Some (key .length - 8)) None ⌝ }
@@ -113,7 +103,7 @@ impl Octets {
 }
 
 // Each answer is said here by the name of the key itself, and not only by what `means` calls its name: a hierarchy whose
-// keys all mean the root would meet the trait's contracts.
+// keys all mean the root would meet the trait's contracts. That `means` gives these very names is said in `hosts`.
 pub impl Hierarchy for Octets as OctetsHierarchy {
     type Key = AddressPrefix;
 

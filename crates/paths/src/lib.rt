@@ -13,6 +13,8 @@ ghost use Rattle.paths.specs.Meaning.{pathMeaning};
 use prefix::Hierarchy;
 use prefix::OrderedHierarchy;
 
+mod texts;
+
 // The most segments of a path.
 pub const PATH_DEPTH: usize = 8;
 
@@ -124,18 +126,6 @@ pub struct Paths<'a> {
 }
 
 impl<'a> Paths<'a> {
-    pub fn new(text: &'a [u8]) -> Paths<'a>
-        ensures { λ r. ⌜ now (r .text) ≡ now (text .entry) ⌝ }
-    {
-        Paths { text }
-    }
-
-    pub fn text(&self) -> &'a [u8]
-        ensures { λ r. ⌜ now r ≡ now (now (self .entry) .text) ⌝ }
-    {
-        self.text
-    }
-
     // Whether the place lies in the text. The sum of offset and length is not taken, since it may not fit.
     fn holds(&self, key: Place) -> bool
         ensures { λ r. ⌜ r ≡ lies (now (now (self .entry) .text)) key ⌝ }
@@ -181,7 +171,7 @@ impl<'a> Paths<'a> {
 }
 
 // Each answer is said here by the name of the key itself, and not only by what `means` calls its name: a hierarchy whose
-// keys all mean the root would meet the trait's contracts.
+// keys all mean the root would meet the trait's contracts. That `means` gives these very names is said in `texts`.
 pub impl<'a> Hierarchy for Paths<'a> as PathsHierarchy {
     type Key = Place;
 

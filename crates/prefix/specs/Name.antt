@@ -27,6 +27,7 @@ stepBefore = beforeBy eqb ltb
 abbrev pub nameBefore : Name → Name → Bool
 nameBefore = beforeBy sameStep stepBefore
 
+-- which of two names comes first
 abbrev pub orderOf : Name → Name → Ordering
 orderOf p q = cond (nameBefore p q) Less (cond (sameName p q) Equal Greater)
 

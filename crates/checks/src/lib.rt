@@ -1,4 +1,5 @@
 // Tests over several crates at once, which are no table of inputs and outputs.
+#![tactic(auto)]
 
 #[cfg(test)]
 mod tests {

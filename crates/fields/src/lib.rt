@@ -1,6 +1,8 @@
 // The fields of a line: where a byte ends one, and the weight that one spells. A weight stands in a log line and, twice,
 // in the first line of a report's input; its form, set out in specs/Weight, is strict, so that each weight has one
 // spelling.
+#![tactic(auto)]
+
 ghost use Rattle.std.specs.Prelude.{◌≡◌, ℕ, ◌-◌, ◌<◌, ◌≤◌, length, if◌then◌else◌, Some, None, ◌≢◌, slice_index};
 ghost use Rattle.fields.specs.Weight.{is_digit, all_digits, spelled, weight_of};
 

@@ -2,8 +2,10 @@
 // prefix are the run right after it whose level is greater, so a figure costs no more than its subtree. Nothing is
 // stored for the rows: a prefix is weighed when a row is looked for, so reading all rows looks at each node a fixed
 // number of times for each of its ancestors.
+#![tactic(auto)]
+
 mod bounds;
 mod rows;
 
-pub use bounds::bounds_of;
+pub use bounds::{Root, bounds_of};
 pub use rows::{Row, Threshold, next_row};

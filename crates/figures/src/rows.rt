@@ -3,8 +3,8 @@
 ghost use Rattle.std.specs.Prelude.{◌≡◌, ◌<◌, ◌≤◌, length, IfSome};
 ghost use Rattle.model.specs.State.{is_heavy};
 
-use super::bounds::{node_bounds, root_bounds};
-use model::{Node, Root};
+use super::bounds::{Root, node_bounds, root_bounds};
+use model::Node;
 use prefix::{Hierarchy, LEVELS, OrderedHierarchy};
 use table::climb;
 
@@ -144,10 +144,9 @@ fn node_row<K: Copy, H: Hierarchy<Key = K>>(
 fn slot_after<K: Copy, H: OrderedHierarchy<Key = K>>(
     hierarchy: &H,
     stored: &[Node<K>],
-    root: Root,
     key: K,
 ) -> usize {
-    let ancestry = climb(hierarchy, stored, key, root);
+    let ancestry = climb(hierarchy, stored, key, 0);
     match ancestry.nearest {
         Some(at) if ancestry.missing == 0 => at + 1,
         _ => ancestry.at,
@@ -188,7 +187,7 @@ pub fn next_row<K: Copy, H: OrderedHierarchy<Key = K>>(
     ensures { IfSome result (λ row. row.lower ≤ row.upper) }
 {
     let from = match after {
-        Some(key) => slot_after(hierarchy, stored, root, key),
+        Some(key) => slot_after(hierarchy, stored, key),
         None => {
             let row = root_row(hierarchy, stored, root, threshold);
             if row.is_some() {

@@ -1,20 +1,16 @@
 -- The state of a summary.
 use Rattle.std.specs.Prelude.{ℕ, ◌-◌, ◌*◌, ◌/◌, ◌^◌, Bool, not, ◌&&◌, List, [], ◌==◌, nat_le}
 use Rattle.model.specs.declared.Node.{Node}
-use Rattle.model.specs.declared.Root.{Root}
 
--- a prefix tree: the figures of the root, and the stored nodes in name order
-pub record Tree (K : Type 0) : Type 0 where
-  pub root : Root
-  pub nodes : List (Node K)
-
--- the settings, the slots of the table, the total, and the tree
+-- the settings, the slots of the table, the total, the figures of the root, and the stored nodes in name order
 pub record State (K : Type 0) : Type 0 where
   pub width : ℕ
   pub share : ℕ
   pub slots : ℕ
   pub total : ℕ
-  pub tree : Tree K
+  pub rootOwn : ℕ
+  pub rootCeiling : ℕ
+  pub nodes : List (Node K)
 
 -- no summary uses more slots than this
 abbrev pub most_slots : ℕ
@@ -29,7 +25,7 @@ error s = s.total / s.width
 -- at opening all figures are 0 and no node is stored
 abbrev pub opened : {K : Type 0} → ℕ → ℕ → ℕ → State K
 opened width share slots =
-    record { width = width; share = share; slots = slots; total = 0; tree = record { root = record { own = 0; ceiling = 0 }; nodes = [] } }
+    record { width = width; share = share; slots = slots; total = 0; rootOwn = 0; rootCeiling = 0; nodes = [] }
 
 -- A count with its slack is heavy when it reaches the share of the summary's own total. Shares are in thousandths.
 abbrev pub is_heavy : ℕ → ℕ → ℕ → Bool

@@ -1,6 +1,8 @@
 // Address prefixes by whole octets, as 10.1.0.0/16. A key is an address and a length in bits; the steps of its name are
 // the first octets of the address, one byte each. Which keys are valid and what they are called is set out in
 // specs/Octets; specs/Meaning puts the hierarchy together, with its laws from specs/Laws.
+#![tactic(auto)]
+
 ghost use Rattle.std.specs.Prelude.{◌≡◌, ◌-◌, ◌^◌, true, ◌&&◌, length, if◌then◌else◌, Some, None, nat_lt};
 ghost use Rattle.prefix.specs.Name.{same_name, name_before};
 ghost use Rattle.octets.specs.Octets.{is_length, is_prefix, octet_name, address_before, root_prefix, prefix_at, parent_prefix, prefix_text};

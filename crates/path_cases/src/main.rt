@@ -1,6 +1,8 @@
 // The path report on a table of cases. Standard input has one case after another: a line with its title, then the bytes
 // of a report's input up to a line feed and a line of four `=`. That line feed is not part of the case, so a case may
 // end without one. Each title is printed, and below it what the path program would print.
+#![tactic(auto)]
+
 ghost use Rattle.std.specs.Prelude.{◌≤◌, length};
 
 use fields::index_of;

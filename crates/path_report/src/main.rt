@@ -1,4 +1,6 @@
 // The path program: reads its input, prints the report. Everything between is `report::path_report`.
+#![tactic(auto)]
+
 use report::{INPUT_LIMIT, path_report, within_limit};
 use std::io::Read;
 

@@ -2,6 +2,8 @@
 // copy of them; the text does not change while keys into it are in use. Which bytes are paths, their steps and their
 // order are set out in specs/Path, which places are paths and what they are called in specs/Hierarchy. specs/Meaning
 // puts the hierarchy together, with its laws from specs/Laws.
+#![tactic(auto)]
+
 ghost use Rattle.std.specs.Prelude.{◌≡◌, true, length};
 ghost use Rattle.prefix.specs.Name.{same_name, name_before};
 ghost use Rattle.paths.specs.Path.{class_of, is_part, steps_of, segment_count, last_slash, rank_of, ranked_before};

@@ -2,6 +2,8 @@
 // of steps, a step a list of bytes. Everything above counts by names alone, so that addresses and texts are looked at
 // in no other place. The definitions of names and their order stand in specs/Name, the meaning and its laws in
 // specs/Meaning.
+#![tactic(auto)]
+
 ghost use Rattle.std.specs.Prelude.{◌≡◌, length};
 ghost use Rattle.prefix.specs.Name.{same_name, name_before};
 ghost use Rattle.prefix.specs.Meaning.{Meaning};

@@ -1,6 +1,8 @@
 // Every refusal of the reporter, whichever layer gives it. One enum for all of them, so that an operator who reads
 // `refused 17` and an engineer who matches on a variant speak of the same list; the numbers stand in one place,
 // `number_of` in specs/, and `number` answers by it.
+#![tactic(auto)]
+
 ghost use Rattle.std.specs.Prelude.{◌≡◌};
 ghost use Rattle.refusal.specs.Numbers.{number_of, layer_of};
 

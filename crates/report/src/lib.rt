@@ -1,5 +1,7 @@
 // The path report as a function from the input's bytes to the text that is printed: a first line of settings, then a
 // path log, and out come the total, the error and the heavy paths, or one line that names a refusal.
+#![tactic(auto)]
+
 ghost use Rattle.std.specs.Prelude.{◌≡◌, take, IfSome, IfOk, Some, None, string_bytes, MatchResult};
 ghost use Rattle.std.specs.Option.{option_map};
 ghost use Rattle.report.specs.Header.{split, pair_of, pair_refusal, header_refusal};

@@ -1,6 +1,8 @@
 // The settings of a summary: how many parts of its total the error is at most, and from which share of the total a
 // prefix is heavy. No settings exist that break a rule, so nothing above has to check them again; the rules stand in
 // specs/Rules.
+#![tactic(auto)]
+
 ghost use Rattle.std.specs.Prelude.{◌≡◌, true, Some, None, MatchResult};
 ghost use Rattle.settings.specs.Rules.{is_width, is_share, is_above_error, settings_refusal};
 

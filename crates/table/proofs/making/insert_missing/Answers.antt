@@ -1,11 +1,8 @@
-use Rattle.std.proofs.Common.{arith}
-use Rattle.table.proofs.Lineages.{inserted}
+use Rattle.std.proofs.Common.{rules}
+use Rattle.table.specs.Ancestors.{Starts}
+use Rattle.table.proofs.Filling.{filled-front}
 use Rattle.table.proofs.making.insert_missing.Goals as goal
 
 pub returns : goal.returns
 returns g c =
-    inserted (g.H.Hierarchy.means c.args.hierarchy.now) c.args.key c.args.ceiling c.args.slots.now c.rotate-right.new.self c.make-nodes.new.made c.args.missing c.min-count.result _
-    c.min-count.ensures
-    (omega arith)
-    c.rotate-right.ensures.after
-    c.make-nodes.ensures
+    filled-front (λ n. Starts n c.args.ceiling) c.make-nodes.new.made _ _ (search rules) c.make-nodes.ensures

@@ -1,6 +1,6 @@
 -- Two valid keys come in the order of their addresses, and have one name only where they are equal.
 use Rattle.std.proofs.Common.{◌≡◌, ℕ, zero, suc, ◌+◌, ◌-◌, ◌*◌, ◌%◌, ◌^◌, ◌<◌, ◌≤◌, Bool, true, false, cond, ◌&&◌, ◌||◌, eqb, ltb, take, Decides, sym, refl, ap, ◌∙◌, subst, ⊎_elim, mod-eq_of_lt, add-mul, one-mul, arith}
-use Rattle.std.proofs.lemmas.Bool.{cases_order, eq-eqb, ne_eqb, lt-ltb, le-ltb, false≢true}
+use Rattle.std.proofs.lemmas.Bool.{and_parts, and_from, cases_order, eqb-true, eq-eqb, ne_eqb, lt-ltb, le-ltb}
 use Rattle.std.proofs.lemmas.Bool.Decides.{nat_tests, same_from_decides}
 use Rattle.std.proofs.lemmas.Nat.{pow_pos, mod-pow-add, mod_below, mul-le}
 use Rattle.prefix.specs.Name.{Name, same_name, name_before}
@@ -130,7 +130,13 @@ same_prefix k l r small low h valid other =
     )
 
 -- what `==` on keys tells
-pub equals_decides : (k l : AddressPrefix) (r : Bool) → cond r (Decides true (k.address ≡ l.address) × Decides true (k.length ≡ l.length)) ((Decides false (k.address ≡ l.address) → ⊥) → (Decides false (k.length ≡ l.length) → ⊥) → ⊥) → Decides r (k ≡ l)
-equals_decides k l true h = (λ _. equal_keys k.address l.address k.length l.length (h.0.0 refl) (h.1.0 refl), λ _. refl)
-equals_decides k l false h =
-    (λ e. absurd (false≢true e), λ e. absurd (h (λ d. false≢true (d.1 (ap (λ x. x.address) e))) (λ d. false≢true (d.1 (ap (λ x. x.length) e)))))
+pub equals_decides : (k l : AddressPrefix) (r : Bool) → r ≡ (eqb k.address l.address && eqb k.length l.length) → Decides r (k ≡ l)
+equals_decides k l r e =
+    let a = eqb k.address l.address in
+    let n = eqb k.length l.length in
+    (
+      (λ t.
+      let h = and_parts a n (sym e ∙ t) in
+      equal_keys k.address l.address k.length l.length (eqb-true k.address l.address h.0) (eqb-true k.length l.length h.1)),
+      (λ s. e ∙ and_from a n (eq-eqb k.address l.address (ap (λ x. x.address) s)) (eq-eqb k.length l.length (ap (λ x. x.length) s))),
+    )

@@ -3,9 +3,9 @@ use Rattle.std.proofs.lemmas.Bool.{cond-false}
 use Rattle.fields.proofs.Digits.{no_digit, one_more, all_read}
 use Rattle.fields.proofs.spell.Goals as goal
 
-pub returns-in-default : goal.returns-in-default
-returns-in-default c =
-    let f = no_digit c.args.digits.now c.loop-byte.byte-index c.loop-byte-test.true c.in-default.ensures c.loop-byte.invariant.1 in
+pub returns-in_default : goal.returns-in_default
+returns-in_default c =
+    let f = no_digit c.args.digits.now c.loop-byte.byte-index c.loop-byte-test.true c.in_default.ensures c.loop-byte.invariant.1 in
     sym (cond-false _ _ _ f)
 
 pub loop-byte-preserved : goal.loop-byte-preserved

@@ -16,5 +16,5 @@ pub returns : goal.returns
 returns c =
     let decided =
     ended_level (iter_rest (zip_first c.loop-a.a-iterator)) (iter_rest (zip_second c.loop-a.a-iterator)) c.args.one.now c.args.other.now
-    (either_empty_from_Zip _ _ _ c.in-None.is c.next.ensures.steps) c.loop-a.invariant.2 c.loop-a.invariant.3 in
+    (either_empty_from_Zip c.loop-a.a-iterator c.next.new.self c.next.result c.in-None.is c.next.ensures.steps) c.loop-a.invariant.2 c.loop-a.invariant.3 in
     record { ranked = decided; named = λ p q. decided ∙ part_order c.args.one.now c.args.other.now p q }

@@ -10,8 +10,8 @@ returns-then-not-filled c =
     refused_empty c.args.part.now c.loop-i.i c.loop-i.count c.loop-i.filled c.loop-i-test.true c.loop-i.auto.i
     c.in-Slash.ensures c.if-not-filled.true c.loop-i.invariant
 
-pub overflow-add-count : goal.overflow-add-count
-overflow-add-count c =
+pub overflow_add-count : goal.overflow_add-count
+overflow_add-count c =
     omega (arith, count_few c.args.part.now c.loop-i.i c.loop-i.count c.loop-i.filled c.loop-i.auto.i c.loop-i.invariant)
 
 pub loop-i-preserved-in-Slash : goal.loop-i-preserved-in-Slash
@@ -24,7 +24,7 @@ loop-i-preserved c =
     read_plain_more c.args.part.now c.loop-i.i c.loop-i.count c.loop-i.filled c.loop-i-test.true c.loop-i.auto.i
     c.in-Plain.ensures c.loop-i.invariant
 
-pub returns-in-default : goal.returns-in-default
-returns-in-default c =
-    refused_byte c.args.part.now c.loop-i.i c.class-of.result c.loop-i-test.true c.loop-i.auto.i c.class-of.ensures
-    c.in-default.not-Slash c.in-default.not-Plain
+pub returns-in_default : goal.returns-in_default
+returns-in_default c =
+    refused_byte c.args.part.now c.loop-i.i c.class_of.result c.loop-i-test.true c.loop-i.auto.i c.class_of.ensures
+    c.in_default.not-Slash c.in_default.not-Plain

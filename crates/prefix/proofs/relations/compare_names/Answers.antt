@@ -5,6 +5,6 @@ pub returns : goal.returns
 returns g c =
     let m = g.H.Hierarchy.means c.args.hierarchy.now in
     record {
-      answer = ranked_by_order (m.name_of c.args.one) (m.name_of c.args.other) c.order-asked.result c.order-asked.ensures;
+      answer = ranked_by_order (m.name_of c.args.one) (m.name_of c.args.other) c.order_asked.result c.order_asked.ensures;
       laws = order_laws;
     }

@@ -5,6 +5,6 @@ pub returns : goal.returns
 returns g c =
     let m = g.H.Hierarchy.means c.args.hierarchy.now in
     record {
-      answer = covered_by_front (m.name_of c.args.upper) (m.name_of c.args.key) c.begins-with.result c.begins-with.ensures;
+      answer = covered_by_front (m.name_of c.args.upper) (m.name_of c.args.key) c.begins_with.result c.begins_with.ensures;
       laws = ancestry_laws;
     }

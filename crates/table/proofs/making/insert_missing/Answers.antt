@@ -5,4 +5,4 @@ use Rattle.table.proofs.making.insert_missing.Goals as goal
 
 pub returns : goal.returns
 returns g c =
-    filled-front (λ n. Starts n c.args.ceiling) c.make-nodes.new.made _ _ (search rules) c.make-nodes.ensures
+    filled-front (λ n. Starts n c.args.ceiling) c.make_nodes.new.made _ _ (search rules) c.make_nodes.ensures

@@ -5,4 +5,4 @@ use Rattle.table.proofs.making.make_nodes.Goals as goal
 
 pub loop-i-preserved : goal.loop-i-preserved
 loop-i-preserved g c =
-    filled_more (λ n. Starts n c.args.ceiling) c.loop-i.made c.loop-i.i c.new-node.result c.loop-i-test.true (omega arith) c.loop-i.invariant c.new-node.ensures
+    filled_more (λ n. Starts n c.args.ceiling) c.loop-i.made c.loop-i.i c.new_node.result c.loop-i-test.true (omega arith) c.loop-i.invariant c.new_node.ensures

@@ -1,5 +1,5 @@
 -- Two valid keys come in the order of their addresses, and have one name only where they are equal.
-use Rattle.std.proofs.Common.{◌≡◌, ℕ, zero, suc, ◌+◌, ◌-◌, ◌*◌, ◌%◌, ◌^◌, ◌<◌, ◌≤◌, Bool, true, false, cond, ◌&&◌, ◌||◌, eqb, ltb, take, Decides, sym, refl, ap, ◌∙◌, subst, ⊎_elim, mod-eq_of_lt, add-mul, one-mul, arith}
+use Rattle.std.proofs.Common.{◌≡◌, ℕ, zero, suc, ◌+◌, ◌-◌, ◌*◌, ◌%◌, ◌^◌, ◌<◌, ◌≤◌, Bool, true, false, ◌&&◌, ◌||◌, eqb, ltb, take, Decides, sym, refl, ap, ◌∙◌, subst, ⊎_elim, mod-eq_of_lt, add-mul, one-mul, arith}
 use Rattle.std.proofs.lemmas.Bool.{and_parts, and_from, cases_order, eqb-true, eq-eqb, ne_eqb, lt-ltb, le-ltb}
 use Rattle.std.proofs.lemmas.Bool.Decides.{nat_tests, same_from_decides}
 use Rattle.std.proofs.lemmas.Nat.{pow_pos, mod-pow-add, mod_below, mul-le}
@@ -133,10 +133,9 @@ same_prefix k l r small low h valid other =
 pub equals_decides : (k l : AddressPrefix) (r : Bool) → r ≡ (eqb k.address l.address && eqb k.length l.length) → Decides r (k ≡ l)
 equals_decides k l r e =
     let a = eqb k.address l.address in
-    let n = eqb k.length l.length in
-    (
+    let n = eqb k.length l.length in (
       (λ t.
-      let h = and_parts a n (sym e ∙ t) in
-      equal_keys k.address l.address k.length l.length (eqb-true k.address l.address h.0) (eqb-true k.length l.length h.1)),
+          let h = and_parts a n (sym e ∙ t) in
+          equal_keys k.address l.address k.length l.length (eqb-true k.address l.address h.0) (eqb-true k.length l.length h.1)),
       (λ s. e ∙ and_from a n (eq-eqb k.address l.address (ap (λ x. x.address) s)) (eq-eqb k.length l.length (ap (λ x. x.length) s))),
     )

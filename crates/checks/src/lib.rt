@@ -39,7 +39,7 @@ mod tests {
         let row = listing
             .first(&small_paths)
             .ok_or("the small site lists nothing")?;
-        assert_eq!(rt; small_paths.part(row.key), b"/camera/backup");
+        assert_eq!(rt; small_paths.part(row.key), b"/camera/backup".as_slice());
         assert!(rt; row.discounted == 95 && 1000 * row.discounted < 200 * large.total());
         Ok(())
     }

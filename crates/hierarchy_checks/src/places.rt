@@ -116,9 +116,9 @@ fn parents_keep_their_offset(rt: HostRuntime) {
     let deepest = place(2, 11);
     assert_eq!(rt; paths.level(deepest), 3);
     let middle = paths.parent(deepest);
-    assert_eq!(rt; paths.part(middle), b"/shop/a");
+    assert_eq!(rt; paths.part(middle), b"/shop/a".as_slice());
     let top = paths.parent(middle);
-    assert_eq!(rt; paths.part(top), b"/shop");
+    assert_eq!(rt; paths.part(top), b"/shop".as_slice());
     let root = paths.parent(top);
     assert_eq!(rt; root, place(2, 0));
     assert!(rt; paths.is_valid(root) && paths.same(root, paths.root()));

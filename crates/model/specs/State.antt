@@ -8,8 +8,8 @@ pub record State (K : Type 0) : Type 0 where
   pub share : ℕ
   pub slots : ℕ
   pub total : ℕ
-  pub rootOwn : ℕ
-  pub rootCeiling : ℕ
+  pub root_own : ℕ
+  pub root_ceiling : ℕ
   pub nodes : List (Node K)
 
 -- no summary uses more slots than this
@@ -25,7 +25,7 @@ error s = s.total / s.width
 -- at opening all figures are 0 and no node is stored
 abbrev pub opened : {K : Type 0} → ℕ → ℕ → ℕ → State K
 opened width share slots =
-    record { width = width; share = share; slots = slots; total = 0; rootOwn = 0; rootCeiling = 0; nodes = [] }
+    record { width = width; share = share; slots = slots; total = 0; root_own = 0; root_ceiling = 0; nodes = [] }
 
 -- A count with its slack is heavy when it reaches the share of the summary's own total. Shares are in thousandths.
 abbrev pub is_heavy : ℕ → ℕ → ℕ → Bool

@@ -35,12 +35,12 @@ front_stands (suc n) (b ∷ bs) e =
 
 -- a name without its last step
 
-parent-none_empty : (p : Name) → none_empty p ≡ true → none_empty (parent_name p) ≡ true
-parent-none_empty [] e = refl
-parent-none_empty (s ∷ []) e = refl
-parent-none_empty (s ∷ (t ∷ q)) e =
+parent_none_empty : (p : Name) → none_empty p ≡ true → none_empty (parent_name p) ≡ true
+parent_none_empty [] e = refl
+parent_none_empty (s ∷ []) e = refl
+parent_none_empty (s ∷ (t ∷ q)) e =
     let h = and_parts (not (is_empty s)) (none_empty (t ∷ q)) e in
-    and_from (not (is_empty s)) (none_empty (parent_name (t ∷ q))) h.0 (parent-none_empty (t ∷ q) h.1)
+    and_from (not (is_empty s)) (none_empty (parent_name (t ∷ q))) h.0 (parent_none_empty (t ∷ q) h.1)
 
 -- a step before the last is followed by another
 parent_cons : (s : Step) (p : Name) → is_empty p ≡ false → parent_name (s ∷ p) ≡ s ∷ parent_name p
@@ -146,7 +146,7 @@ cut_part bs e =
     let n = last_slash bs in
     let steps = cut_steps bs in
     part_from (take n bs) (front_headless n bs h.0) (front_stands n bs h.1)
-    (ap none_empty steps ∙ parent-none_empty (steps_of bs) h.2)
+    (ap none_empty steps ∙ parent_none_empty (steps_of bs) h.2)
     (omega (arith, ap length steps, parent_level (steps_of bs), h.3))
 
 -- the laws

@@ -13,7 +13,7 @@ filled_more P xs i v some within filled holds k d low high =
     (λ e. subst P (sym (get_or-set_other xs (i - 1) k v d e)) (filled k d (⊎_elim (λ h. absurd (e (omega arith))) (λ h. h) (cases_lt k i)) high'))
     (cases_eq k (i - 1))
 
-pub filled-front : {X : Type 0} (P : X → Type 0) (xs ys : List X) (n : ℕ) → n ≤ length xs → AllWithin P xs 0 (length xs) → AllWithin P (xs ++ ys) 0 n
-filled-front P xs ys n within filled k d low high =
+pub filled_front : {X : Type 0} (P : X → Type 0) (xs ys : List X) (n : ℕ) → n ≤ length xs → AllWithin P xs 0 (length xs) → AllWithin P (xs ++ ys) 0 n
+filled_front P xs ys n within filled k d low high =
     let less : k < length xs = omega arith in
     subst P (sym (get_or_append_left xs ys d k less)) (filled k d low less)

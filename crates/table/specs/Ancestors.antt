@@ -12,6 +12,6 @@ pub record Climbed {K : Type 0} (m : Meaning K) (stored : List (Node K)) (key : 
 
 -- A node that is made has counted nothing; what was counted beneath it before is at most the ceiling it starts from.
 pub record Starts {K : Type 0} (n : Node K) (ceiling : ℕ) : Type 0 where
-  pub own-none : n.own ≡ 0
-  pub slack-is : n.slack ≡ ceiling
+  pub own_none : n.own ≡ 0
+  pub slack_is : n.slack ≡ ceiling
   pub ceiling_is : n.ceiling ≡ ceiling

@@ -7,5 +7,6 @@
 mod bounds;
 mod rows;
 
-pub use bounds::{Root, bounds_of};
+pub use bounds::bounds_of;
+pub use model::Root;
 pub use rows::{Row, Threshold, next_row};

@@ -3,8 +3,8 @@
 ghost use Rattle.std.specs.Prelude.{◌≡◌, ◌<◌, ◌≤◌, length, IfSome};
 ghost use Rattle.model.specs.State.{is_heavy};
 
-use super::bounds::{Root, node_bounds, root_bounds};
-use model::Node;
+use super::bounds::{node_bounds, root_bounds};
+use model::{Node, Root};
 use prefix::{Hierarchy, LEVELS, OrderedHierarchy};
 use table::climb;
 

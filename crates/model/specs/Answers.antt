@@ -1,9 +1,32 @@
--- Which answers the calls of a summary give, and what each leaves as it was.
+-- What the calls of a summary promise: from a sound state the defined answer and the defined state; and in any state, of
+-- whatever hierarchy, what they leave as it was.
 use Rattle.std.specs.Prelude.{◌≡◌, ℕ, ◌+◌, ◌<◌, ◌≤◌, true, false, length, Ok, Err, Result, MatchResult}
 use Rattle.refusal.specs.declared.Refusal.{Refusal}
 use Rattle.refusal.specs.declared.Refusal.TheVariants.{KeyNotValid, TotalTooLarge, NoFreeSlot}
 use Rattle.prefix.specs.Meaning.{Meaning}
 use Rattle.model.specs.State.{State, largest_total}
+use Rattle.model.specs.Summary.{swept, sweep_answer, added, add_answer, bounds_answer}
+use Rattle.model.specs.Sound.{Sound}
+
+-- FROM A SOUND STATE
+
+-- a call answers and leaves what is defined, and the state stays sound
+pub record Defined {K R : Type 0} (m : Meaning K) (answer : R) (state : State K) (r : R) (after : State K) : Type 0 where
+  pub answer_is : r ≡ answer
+  pub state_is : after ≡ state
+  pub stays_sound : Sound m after
+
+abbrev pub AddsAsDefined : {K : Type 0} → Meaning K → State K → K → ℕ → State K → Result ℕ Refusal → Type 0
+AddsAsDefined m before key weight after r =
+    Sound m before → Defined m (add_answer m before key weight) (added m before key weight) r after
+
+abbrev pub SweepsAsDefined : {K : Type 0} → Meaning K → State K → State K → ℕ → Type 0
+SweepsAsDefined m before after r = Sound m before → Defined m (sweep_answer m before) (swept m before) r after
+
+abbrev pub BoundsAsDefined : {K : Type 0} → Meaning K → State K → K → State K → Result (ℕ × ℕ) Refusal → Type 0
+BoundsAsDefined m before key after r = Sound m before → Defined m (bounds_answer m before key) before r after
+
+-- IN ANY STATE
 
 -- settings and slots never change
 pub record SameTable {K : Type 0} (before after : State K) : Type 0 where

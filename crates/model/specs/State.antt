@@ -1,6 +1,7 @@
 -- The state of a summary.
 use Rattle.std.specs.Prelude.{ℕ, ◌-◌, ◌*◌, ◌/◌, ◌^◌, Bool, not, ◌&&◌, List, [], ◌==◌, nat_le}
 use Rattle.model.specs.declared.Node.{Node}
+use Rattle.model.specs.declared.Root.{Root}
 
 -- the settings, the slots of the table, the total, the figures of the root, and the stored nodes in name order
 pub record State (K : Type 0) : Type 0 where
@@ -11,6 +12,15 @@ pub record State (K : Type 0) : Type 0 where
   pub root_own : ℕ
   pub root_ceiling : ℕ
   pub nodes : List (Node K)
+
+-- a prefix tree: the figures of the root, and the stored nodes in name order
+pub record Tree (K : Type 0) : Type 0 where
+  pub root : Root
+  pub nodes : List (Node K)
+
+-- the tree of a state
+abbrev pub state_tree : {K : Type 0} → State K → Tree K
+state_tree s = record { root = record { own = s.root_own; ceiling = s.root_ceiling }; nodes = s.nodes }
 
 -- no summary uses more slots than this
 abbrev pub most_slots : ℕ

@@ -1,8 +1,9 @@
-// What a summary is made of, and the definitions that the contracts above cite: a node, and in specs/ the state of a
-// summary with what its calls answer. Nearly no code: this is what a reader of those contracts has to believe.
+// What a summary is made of, and the definitions that the contracts above cite: a node and the root, and in specs/ the
+// state of a summary with what its calls answer and make of it. Little code: this is what a reader of those contracts
+// has to believe.
 #![tactic(auto)]
 
-ghost use Rattle.std.specs.Prelude.{◌≡◌};
+ghost use Rattle.std.specs.Prelude.{◌≡◌, ◌+◌, ◌-◌, ◌^◌, min, max};
 
 // A stored prefix. The own count is the weight counted at the prefix itself; the slack bounds what was counted at or
 // beneath it and is not in the table; the ceiling bounds what was counted beneath it at any prefix that is not stored.
@@ -24,6 +25,37 @@ impl<K: Copy> Node<K> {
             own: 0,
             slack: 0,
             ceiling: 0,
+        }
+    }
+
+    // The node after it took over an own count, with a ceiling that is at least the load.
+    pub fn taking(self, own: u64, load: u64) -> Node<K>
+        ensures { result ≡ record { key = self.key; own = min (self.own + own) (2 ^ 64 - 1); slack = self.slack; ceiling = max self.ceiling load } }
+    {
+        Node {
+            key: self.key,
+            own: self.own.saturating_add(own),
+            slack: self.slack,
+            ceiling: self.ceiling.max(load),
+        }
+    }
+}
+
+// The figures of the root, which takes no slot and whose slack is 0.
+#[derive(Clone, Copy)]
+pub struct Root {
+    pub own: u64,
+    pub ceiling: u64,
+}
+
+impl Root {
+    // The root after it took over an own count, with a ceiling that is at least the load.
+    pub fn taking(self, own: u64, load: u64) -> Root
+        ensures { result ≡ record { own = min (self.own + own) (2 ^ 64 - 1); ceiling = max self.ceiling load } }
+    {
+        Root {
+            own: self.own.saturating_add(own),
+            ceiling: self.ceiling.max(load),
         }
     }
 }

@@ -1,14 +1,18 @@
 // A counting summary: opening it over a table, adding weights, sweeping, and the bounds of a prefix. The methods read
 // the fields, hand the table to functions over slices, and store what comes back.
-ghost use Rattle.std.specs.Prelude.{◌≡◌, ◌-◌, ◌<◌, ◌≤◌, min, length, IfSome};
-ghost use Rattle.model.specs.State.{opened, error as error_of, most_slots};
-ghost use Rattle.model.specs.Answers.{SameTable, Adds, Sweeps, Bounds};
-ghost use Rattle.summary.specs.Room.{HasRoom};
+ghost use Rattle.std.specs.Prelude.{◌≡◌, ◌+◌, ◌-◌, ◌^◌, ◌<◌, ◌≤◌, min, true, length, IfSome};
+ghost use Rattle.model.specs.State.{state_tree, opened, error as error_of, most_slots, largest_total};
+ghost use Rattle.prefix.specs.Meaning.{Meaning};
+ghost use Rattle.model.specs.Summary.{names_of, counted, settled};
+ghost use Rattle.model.specs.Sound.{Formed, Sound};
+ghost use Rattle.model.specs.Answers.{AddsAsDefined, SweepsAsDefined, BoundsAsDefined, SameTable, Adds, Sweeps, Bounds};
+ghost use Rattle.table.specs.Ancestors.{Ancestors};
+ghost use Rattle.summary.specs.Room.{HasRoom, FindsRoom, own_slot};
 ghost use Rattle.summary.specs.View.{view};
 
 use super::slots::{bounds_in, climb_in, count_in_use, insert_in, next_in, raise_own, sweep_in};
-use figures::{Root, Row, Threshold};
-use model::Node;
+use figures::{Row, Threshold};
+use model::{Node, Root};
 use prefix::{Hierarchy, OrderedHierarchy};
 use refusal::Refusal;
 use settings::Settings;
@@ -19,6 +23,19 @@ const MOST_SLOTS: usize = 4096;
 
 // The largest total, 2^48 - 1: sums of own counts, slacks and shares of it stay far from the end of 64 bits.
 const LARGEST_TOTAL: u64 = 281_474_976_710_655;
+
+// The slot of the key's own node once the missing ones are made: the last of those, or else the nearest, which is the
+// key's own. None for the root.
+fn own_slot(ancestry: Ancestry) -> Option<usize>
+    requires { ancestry.at + ancestry.missing < 2 ^ 64 }
+    ensures { result ≡ own_slot ancestry }
+{
+    if ancestry.missing > 0 {
+        Some(ancestry.at + (ancestry.missing - 1))
+    } else {
+        ancestry.nearest
+    }
+}
 
 #[derive(Drop)]
 pub struct Summary<'a, K: Copy> {
@@ -32,7 +49,8 @@ pub struct Summary<'a, K: Copy> {
 impl<'a, K: Copy> Summary<'a, K> {
     // A summary that has counted nothing, over a table that the caller lends.
     pub fn open(settings: Settings, nodes: &'a mut [Node<K>]) -> Summary<'a, K>
-        ensures { view result ≡ opened settings.width settings.share (min most_slots (length nodes.old)) }
+        ensures state { view result ≡ opened settings.width settings.share (min most_slots (length nodes.old)) }
+        ensures sound { (m : Meaning K) → Sound m (view result) }
     {
         Summary {
             nodes,
@@ -69,14 +87,15 @@ impl<'a, K: Copy> Summary<'a, K> {
 
     // Folds the light nodes into their parents, the deepest level first; answers how many.
     pub fn sweep<H: OrderedHierarchy<Key = K>>(&mut self, hierarchy: &H) -> usize
-        ensures { Sweeps (view self.old) (view self.new) result }
+        ensures defined { SweepsAsDefined (H.Hierarchy.means hierarchy.now) (view self.old) (view self.new) result }
+        ensures always { Sweeps (view self.old) (view self.new) result }
     {
         let error = self.error();
+        let root = self.root;
         let used = self.in_use();
-        let swept = sweep_in(hierarchy, self.nodes, used, error);
+        let swept = sweep_in(hierarchy, self.nodes, used, root, error);
         self.used = swept.kept;
-        self.root.own = self.root.own.saturating_add(swept.own);
-        self.root.ceiling = self.root.ceiling.max(swept.ceiling);
+        self.root = swept.root;
         used - swept.kept
     }
 
@@ -85,6 +104,7 @@ impl<'a, K: Copy> Summary<'a, K> {
         ensures same { view self.new ≡ view self.old }
         ensures at { result.at ≤ length (view self.old).nodes }
         ensures nearest { IfSome result.nearest (λ i. i < length (view self.old).nodes) }
+        ensures formed { Formed (names_of (H.Hierarchy.means hierarchy.now) (view self.old).nodes) → Ancestors (H.Hierarchy.means hierarchy.now) (view self.old).nodes key (state_tree (view self.old)).root result }
     {
         let root = self.root;
         let used = self.in_use();
@@ -103,6 +123,7 @@ impl<'a, K: Copy> Summary<'a, K> {
     // The missing names of a key for which there are slots enough, after a sweep if need be; the sweep may fold an
     // ancestor, so they are counted anew after it.
     fn find_room<H: OrderedHierarchy<Key = K>>(&mut self, hierarchy: &H, key: K) -> Option<Ancestry>
+        ensures defined { Sound (H.Hierarchy.means hierarchy.now) (view self.old) → FindsRoom (H.Hierarchy.means hierarchy.now) (view self.old) key (view self.new) result }
         ensures table { SameTable (view self.old) (view self.new) }
         ensures total { (view self.new).total ≡ (view self.old).total }
         ensures fits { IfSome result (λ a. HasRoom (view self.new) a) }
@@ -130,6 +151,7 @@ impl<'a, K: Copy> Summary<'a, K> {
         ancestry: Ancestry,
     )
         requires { HasRoom (view self.old) ancestry }
+        ensures defined { Sound (H.Hierarchy.means hierarchy.now) (view self.old) → Ancestors (H.Hierarchy.means hierarchy.now) (view self.old).nodes key (state_tree (view self.old)).root ancestry → (H.Hierarchy.means hierarchy.now).is_valid key ≡ true → 0 < weight → total ≡ (view self.old).total + weight → total ≤ largest_total → view self.new ≡ counted (H.Hierarchy.means hierarchy.now) (view self.old) key weight }
         ensures table { SameTable (view self.old) (view self.new) }
         ensures total { (view self.new).total ≡ total }
     {
@@ -137,15 +159,20 @@ impl<'a, K: Copy> Summary<'a, K> {
         insert_in(hierarchy, self.nodes, used, key, ancestry);
         self.used = used + ancestry.missing;
         self.total = total;
-        // the key's own node is the last of those that were made, or else the nearest
-        let own = if ancestry.missing > 0 {
-            Some(ancestry.at + (ancestry.missing - 1))
-        } else {
-            ancestry.nearest
-        };
-        match own {
+        match own_slot(ancestry) {
             Some(at) => raise_own(self.nodes, at, weight),
-            None => self.root.own = self.root.own.saturating_add(weight),
+            None => self.root = self.root.taking(weight, 0),
+        }
+    }
+
+    // Sweeps if the error has grown.
+    fn settle<H: OrderedHierarchy<Key = K>>(&mut self, hierarchy: &H, error: u64)
+        ensures defined { Sound (H.Hierarchy.means hierarchy.now) (view self.old) → view self.new ≡ settled (H.Hierarchy.means hierarchy.now) error (view self.old) }
+        ensures table { SameTable (view self.old) (view self.new) }
+        ensures total { (view self.new).total ≡ (view self.old).total }
+    {
+        if self.error() > error {
+            self.sweep(hierarchy);
         }
     }
 
@@ -156,7 +183,8 @@ impl<'a, K: Copy> Summary<'a, K> {
         key: K,
         weight: u32,
     ) -> Result<u64, Refusal>
-        ensures { Adds (H.Hierarchy.means hierarchy.now) (view self.old) key weight (view self.new) result }
+        ensures defined { AddsAsDefined (H.Hierarchy.means hierarchy.now) (view self.old) key weight (view self.new) result }
+        ensures always { Adds (H.Hierarchy.means hierarchy.now) (view self.old) key weight (view self.new) result }
     {
         if !hierarchy.is_valid(key) {
             return Err(Refusal::KeyNotValid);
@@ -174,9 +202,7 @@ impl<'a, K: Copy> Summary<'a, K> {
         };
         let error = self.error();
         self.count(hierarchy, key, weight, total, ancestry);
-        if self.error() > error {
-            self.sweep(hierarchy);
-        }
+        self.settle(hierarchy, error);
         Ok(total)
     }
 
@@ -186,6 +212,7 @@ impl<'a, K: Copy> Summary<'a, K> {
         hierarchy: &H,
         key: K,
     ) -> Result<(u64, u64), Refusal>
+        ensures defined { BoundsAsDefined (H.Hierarchy.means hierarchy.now) (view self.old) key (view self.new) result }
         ensures same { view self.new ≡ view self.old }
         ensures cases { Bounds (H.Hierarchy.means hierarchy.now) key result }
     {

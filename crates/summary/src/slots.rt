@@ -1,11 +1,16 @@
 // The slots of a lent table of which the first `used` are in use: handing those to the functions that read, make and
 // fold nodes.
-ghost use Rattle.std.specs.Prelude.{◌≡◌, ◌+◌, ◌<◌, ◌≤◌, length, take, IfSome};
+ghost use Rattle.std.specs.Prelude.{◌≡◌, ℕ, ◌+◌, ◌^◌, ◌<◌, ◌≤◌, ◌++◌, length, get_or, take, drop, IfSome, slice_index_or, slice_set};
+ghost use Rattle.model.specs.State.{largest_total};
+ghost use Rattle.model.specs.Summary.{names_of, took, swept_tree, bounds_of};
+ghost use Rattle.model.specs.Sound.{Formed, SoundTree};
+ghost use Rattle.model.specs.Table.{lineage};
+ghost use Rattle.table.specs.Ancestors.{Ancestors};
 
-use figures::{Root, Row, Threshold, bounds_of, next_row};
-use model::Node;
+use figures::{Row, Threshold, bounds_of, next_row};
+use model::{Node, Root};
 use prefix::{Hierarchy, OrderedHierarchy};
-use sweep::{Swept, sweep_nodes};
+use sweep::{SweptTree, sweep_tree};
 use table::{Ancestry, climb, insert_missing};
 
 // How many slots of the table are in use.
@@ -28,6 +33,7 @@ pub(crate) fn climb_in<K: Copy, H: OrderedHierarchy<Key = K>>(
     ensures same { nodes.new ≡ nodes.old }
     ensures at { result.at ≤ used }
     ensures nearest { IfSome result.nearest (λ i. i < used) }
+    ensures formed { Formed (names_of (H.Hierarchy.means hierarchy.now) (take used nodes.old)) → Ancestors (H.Hierarchy.means hierarchy.now) (take used nodes.old) key root result }
 {
     let stored = &mut nodes[0..used];
     climb(hierarchy, stored, key, root.ceiling)
@@ -43,6 +49,7 @@ pub(crate) fn bounds_in<K: Copy, H: OrderedHierarchy<Key = K>>(
     requires { used ≤ length nodes.old }
     ensures same { nodes.new ≡ nodes.old }
     ensures low { result.0 ≤ result.1 }
+    ensures value { (total e : ℕ) → SoundTree (H.Hierarchy.means hierarchy.now) total e (record { root = root; nodes = take used nodes.old }) → e ≤ largest_total → result ≡ bounds_of (H.Hierarchy.means hierarchy.now) (record { root = root; nodes = take used nodes.old }) ((H.Hierarchy.means hierarchy.now).name_of key) }
 {
     let stored = &mut nodes[0..used];
     bounds_of(hierarchy, stored, root, key)
@@ -68,13 +75,15 @@ pub(crate) fn sweep_in<K: Copy, H: Hierarchy<Key = K>>(
     hierarchy: &H,
     nodes: &mut [Node<K>],
     used: usize,
+    root: Root,
     error: u64,
-) -> Swept
+) -> SweptTree
     requires { used ≤ length nodes.old }
-    ensures { result.kept ≤ used }
+    ensures within { result.kept ≤ used }
+    ensures value { (total : ℕ) → SoundTree (H.Hierarchy.means hierarchy.now) total error (record { root = root; nodes = take used nodes.old }) → error ≤ largest_total → record { root = result.root; nodes = take result.kept nodes.new } ≡ swept_tree (H.Hierarchy.means hierarchy.now) error (record { root = root; nodes = take used nodes.old }) }
 {
     let stored = &mut nodes[0..used];
-    sweep_nodes(hierarchy, stored, error)
+    sweep_tree(hierarchy, stored, root, error)
 }
 
 // Makes the missing nodes of a key where they belong.
@@ -86,6 +95,7 @@ pub(crate) fn insert_in<K: Copy, H: Hierarchy<Key = K>>(
     ancestry: Ancestry,
 )
     requires { (ancestry.at ≤ used) × (used + ancestry.missing ≤ length nodes.old) }
+    ensures { take (used + ancestry.missing) nodes.new ≡ take ancestry.at (take used nodes.old) ++ (lineage (H.Hierarchy.means hierarchy.now) key ancestry.ceiling ancestry.missing ++ drop ancestry.at (take used nodes.old)) }
 {
     let Ancestry {
         missing,
@@ -97,8 +107,10 @@ pub(crate) fn insert_in<K: Copy, H: Hierarchy<Key = K>>(
     insert_missing(hierarchy, slots, missing, key, ceiling);
 }
 
+// Counts a weight at the node in a slot.
 pub(crate) fn raise_own<K: Copy>(nodes: &mut [Node<K>], at: usize, weight: u64)
     requires { at < length nodes.old }
+    ensures { (d : Node K) → (get_or nodes.old at d).own + weight < 2 ^ 64 → nodes.new ≡ slice_set nodes.old at (took weight 0 (slice_index_or nodes.old at d)) }
 {
-    nodes[at].own = nodes[at].own.saturating_add(weight);
+    nodes[at] = nodes[at].taking(weight, 0);
 }

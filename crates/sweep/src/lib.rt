@@ -1,10 +1,15 @@
-// Folding light nodes into their parents. In name order a node's children come after it, so one walk from the last
-// node to the first settles the levels from the deepest up: what the children hand up waits in a carry for each level
-// until their parent is reached. The kept nodes gather at the end of the used slots and are then moved to the front.
+// Folding light nodes into their parents, in two ways. `sweep_tree`, in the module folding, folds level by level from the
+// deepest; its contract says what a sweep is defined to leave, and a summary sweeps by it. `sweep_nodes`, here, settles a
+// table in one walk. In name order a node's children come after it, so a walk from the last node to the first settles the
+// levels from the deepest up: what the children hand up waits in a carry for each level until their parent is reached. The
+// kept nodes gather at the end of the used slots and are then moved to the front.
 #![tactic(auto)]
 
 ghost use Rattle.std.specs.Prelude.{◌≡◌, ◌≤◌, ◌<◌, length};
 
+mod folding;
+
+pub use folding::{SweptTree, sweep_tree};
 use model::Node;
 use prefix::{Hierarchy, LEVELS};
 

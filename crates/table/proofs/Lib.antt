@@ -1,1 +1,4 @@
 mod Filling
+mod Positions
+mod Climbing
+mod Lineages

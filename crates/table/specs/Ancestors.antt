@@ -1,7 +1,11 @@
 -- What is known of a key's ancestry in a table.
-use Rattle.std.specs.Prelude.{◌≡◌, ℕ, ◌<◌, ◌≤◌, List, length, MatchOption}
+use Rattle.std.specs.Prelude.{◌≡◌, ℕ, ◌-◌, ◌<◌, ◌≤◌, List, length, take, MatchOption}
+use Rattle.std.specs.List.{HoldsAt}
 use Rattle.prefix.specs.Meaning.{Meaning}
 use Rattle.model.specs.declared.Node.{Node}
+use Rattle.model.specs.declared.Root.{Root}
+use Rattle.model.specs.Summary.{missing_up, name_at, names_of, ceiling_up}
+use Rattle.model.specs.Table.{count_before}
 use Rattle.table.specs.declared.lookup.Ancestry.{Ancestry}
 
 -- Where no ancestor is stored, all names of the key are missing and the ceiling is the root's; else fewer are.
@@ -9,6 +13,14 @@ pub record Climbed {K : Type 0} (m : Meaning K) (stored : List (Node K)) (key : 
   pub within : a.at ≤ length stored
   pub nearest_stored :
       MatchOption a.nearest ((a.missing ≡ length (m.name_of key)) × (a.ceiling ≡ root)) (λ i. (i < length stored) × (a.missing < length (m.name_of key)))
+
+-- In a table whose names are in order with every parent among them, the ancestry is the one that the rules speak of.
+pub record Ancestors {K : Type 0} (m : Meaning K) (stored : List (Node K)) (key : K) (root : Root) (a : Ancestry) : Type 0 where
+  pub missing_is : a.missing ≡ missing_up (names_of m stored) (m.name_of key) (length (m.name_of key))
+  pub ceiling_is : a.ceiling ≡ ceiling_up m (record { root = root; nodes = stored }) (m.name_of key) (length (m.name_of key))
+  pub at_is : a.at ≡ count_before (names_of m stored) (m.name_of key)
+  pub nearest_is :
+      MatchOption a.nearest (a.missing ≡ length (m.name_of key)) (λ i. (i < length stored) × HoldsAt (λ n. name_at m n ≡ take (length (m.name_of key) - a.missing) (m.name_of key)) stored i)
 
 -- A node that is made has counted nothing; what was counted beneath it before is at most the ceiling it starts from.
 pub record Starts {K : Type 0} (n : Node K) (ceiling : ℕ) : Type 0 where

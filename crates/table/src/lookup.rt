@@ -1,7 +1,12 @@
 // Finding names in the table: the order question alone finds a name, and climbing from a key ends at its nearest stored
 // ancestor.
 ghost use Rattle.std.specs.Prelude.{◌≡◌, ◌<◌, ◌≤◌, true, length};
-ghost use Rattle.table.specs.Ancestors.{Climbed};
+ghost use Rattle.std.specs.List.{HoldsAt};
+ghost use Rattle.model.specs.declared.Root.{Root};
+ghost use Rattle.model.specs.Summary.{among, name_at, names_of};
+ghost use Rattle.model.specs.Sound.{Sorted, Formed};
+ghost use Rattle.model.specs.Table.{count_before};
+ghost use Rattle.table.specs.Ancestors.{Climbed, Ancestors};
 
 use model::Node;
 use prefix::{Hierarchy, OrderedHierarchy};
@@ -29,7 +34,8 @@ fn position<K: Copy, H: OrderedHierarchy<Key = K>>(
     stored: &[Node<K>],
     key: K,
 ) -> usize
-    ensures { result ≤ length stored.now }
+    ensures within { result ≤ length stored.now }
+    ensures value { Sorted (names_of (H.Hierarchy.means hierarchy.now) stored.now) → result ≡ count_before (names_of (H.Hierarchy.means hierarchy.now) stored.now) ((H.Hierarchy.means hierarchy.now).name_of key) }
 {
     let mut low = 0;
     let mut high = stored.len();
@@ -47,6 +53,8 @@ fn position<K: Copy, H: OrderedHierarchy<Key = K>>(
 fn find<K: Copy, H: OrderedHierarchy<Key = K>>(hierarchy: &H, stored: &[Node<K>], key: K) -> Spot
     ensures at { result.at ≤ length stored.now }
     ensures within { result.stored ≡ true → result.at < length stored.now }
+    ensures found { Sorted (names_of (H.Hierarchy.means hierarchy.now) stored.now) → result.stored ≡ among (names_of (H.Hierarchy.means hierarchy.now) stored.now) ((H.Hierarchy.means hierarchy.now).name_of key) }
+    ensures there { result.stored ≡ true → HoldsAt (λ n. name_at (H.Hierarchy.means hierarchy.now) n ≡ (H.Hierarchy.means hierarchy.now).name_of key) stored.now result.at }
 {
     let at = position(hierarchy, stored, key);
     if at < stored.len() {
@@ -66,7 +74,8 @@ pub fn climb<K: Copy, H: OrderedHierarchy<Key = K>>(
     key: K,
     root_ceiling: u64,
 ) -> Ancestry
-    ensures { Climbed (H.Hierarchy.means hierarchy.now) stored.now key root_ceiling result }
+    ensures always { Climbed (H.Hierarchy.means hierarchy.now) stored.now key root_ceiling result }
+    ensures formed { Formed (names_of (H.Hierarchy.means hierarchy.now) stored.now) → (root : Root) → root.ceiling ≡ root_ceiling → Ancestors (H.Hierarchy.means hierarchy.now) stored.now key root result }
 {
     let at = position(hierarchy, stored, key);
     let level = hierarchy.level(key);

@@ -1,14 +1,17 @@
 // Making the missing nodes of a key. They stand next to each other in name order, and all start from one ceiling, that
 // of the nearest stored ancestor: it bounds what was counted there before they were stored.
-ghost use Rattle.std.specs.Prelude.{min, length};
+ghost use Rattle.std.specs.Prelude.{◌≡◌, ◌-◌, min, ◌++◌, length, take};
 ghost use Rattle.std.specs.List.{AllWithin};
+ghost use Rattle.model.specs.Summary.{fresh};
+ghost use Rattle.model.specs.Table.{lineage};
 ghost use Rattle.table.specs.Ancestors.{Starts};
 
 use model::Node;
 use prefix::Hierarchy;
 
 fn new_node<K: Copy>(key: K, ceiling: u64) -> Node<K>
-    ensures { Starts result ceiling }
+    ensures starts { Starts result ceiling }
+    ensures value { result ≡ fresh key ceiling }
 {
     Node {
         key,
@@ -25,7 +28,8 @@ fn make_nodes<K: Copy, H: Hierarchy<Key = K>>(
     key: K,
     ceiling: u64,
 )
-    ensures { AllWithin (λ n. Starts n ceiling) made.new 0 (length made.new) }
+    ensures starts { AllWithin (λ n. Starts n ceiling) made.new 0 (length made.new) }
+    ensures value { made.new ≡ lineage (H.Hierarchy.means hierarchy.now) key ceiling (length made.old) }
 {
     let mut up = key;
     for i in (0..made.len()).rev() {
@@ -43,7 +47,8 @@ pub fn insert_missing<K: Copy, H: Hierarchy<Key = K>>(
     key: K,
     ceiling: u64,
 )
-    ensures { AllWithin (λ n. Starts n ceiling) slots.new 0 (min missing (length slots.old)) }
+    ensures starts { AllWithin (λ n. Starts n ceiling) slots.new 0 (min missing (length slots.old)) }
+    ensures value { slots.new ≡ lineage (H.Hierarchy.means hierarchy.now) key ceiling (min missing (length slots.old)) ++ take (length slots.old - missing) slots.old }
 {
     let count = missing.min(slots.len());
     slots.rotate_right(count);

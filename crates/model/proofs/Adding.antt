@@ -1,6 +1,6 @@
 -- Adds keep a summary sound, and where they make their nodes.
 use Rattle.std.proofs.Common.{◌≡◌, ℕ, zero, suc, ◌+◌, ◌-◌, ◌/◌, ◌<◌, ◌≤◌, true, false, cond, ltb, ◌⊎◌, List, [], ◌∷◌, ◌++◌, length, take, drop, Some, sym, refl, ap, ◌∙◌, inl, inr, ⊎_elim, one-add, arith}
-use Rattle.std.specs.List.{AllByRecursion as All}
+use Rattle.std.specs.List.{AllByRecursion}
 use Rattle.std.proofs.lemmas.Bool.{or_cases, or_parts, or_from, cases_Bool, both_ways, leb-true, false≢true, cond_both, cond-true, cond-false}
 use Rattle.std.proofs.lemmas.List.{append_assoc, map-append, length-append, length-map, take-append-drop, take_all, nil_from_length}
 use Rattle.std.proofs.ByRecursion.{All-weaker}
@@ -32,7 +32,7 @@ record Waits {K : Type 0} (m : Meaning K) (e : ℕ) (all : List Name) (p : Name)
 record Grown {K : Type 0} (m : Meaning K) (e : ℕ) (t : Tree K) (p : Name) (up : Tree K) : Type 0 where
   formed : Formed (names_of m up.nodes)
   there : is_present (names_of m up.nodes) p ≡ true
-  waits : All (Waits m e (names_of m up.nodes) p) up.nodes
+  waits : AllByRecursion (Waits m e (names_of m up.nodes) p) up.nodes
   root_same : up.root ≡ t.root
   owns_same : own_sum up.nodes ≡ own_sum t.nodes
 
@@ -63,12 +63,12 @@ module _ {K : Type 0} (m : Meaning K) where
       or_parts (among (names_of m fs) p) (among (names_of m bs) p)
       (sym (among-append (names_of m fs) (names_of m bs) p) ∙ ap (λ qs. among qs p) (sym (map-append (name_at m) fs bs)) ∙ ap (λ all. among (names_of m all) p) (take-append-drop at ns) ∙ e)
 
-  among_lengthened : (t : Tree K) (at : ℕ) (new : List (Node K)) (p : Name) → among (names_of m t.nodes) p ≡ false → All (Earlier m p) new → among (names_of m (lengthened t at new).nodes) p ≡ false
+  among_lengthened : (t : Tree K) (at : ℕ) (new : List (Node K)) (p : Name) → among (names_of m t.nodes) p ≡ false → AllByRecursion (Earlier m p) new → among (names_of m (lengthened t at new).nodes) p ≡ false
   among_lengthened t at new p e h =
       let old = parts_apart t.nodes at p e in
       rw (map-append, map-append, among-append, among-append) (or_from _ _ old.0 (or_from _ _ (not_among_earlier m new p h) old.1))
 
-  insert_lengthened : (t : Tree K) (new : List (Node K)) (n : Node K) → All (Earlier m (name_at m n)) new →
+  insert_lengthened : (t : Tree K) (new : List (Node K)) (n : Node K) → AllByRecursion (Earlier m (name_at m n)) new →
       let at : ℕ = count_before (names_of m t.nodes) (name_at m n) in
       insert m n (lengthened t at new).nodes ≡ (lengthened t at (new ++ n ∷ [])).nodes
   insert_lengthened t new n h =
@@ -78,7 +78,7 @@ module _ {K : Type 0} (m : Meaning K) where
       insert_behind m n fs (new ++ bs) (front_earlier m t.nodes (name_at m n))
       ∙ ap (λ (ns : List (Node K)). fs ++ ns) (insert_behind m n new bs h ∙ ap (λ (ns : List (Node K)). new ++ ns) (insert_there m n t.nodes) ∙ sym (append_assoc new (n ∷ []) bs))
 
-  lineage_earlier : (k : K) (c j : ℕ) (p : Name) → 0 < length p → m.name_of k ≡ parent_name p → All (Earlier m p) (lineage m k c j)
+  lineage_earlier : (k : K) (c j : ℕ) (p : Name) → 0 < length p → m.name_of k ≡ parent_name p → AllByRecursion (Earlier m p) (lineage m k c j)
   lineage_earlier k c j p h e =
       All-weaker (λ n. above (name_at m n) p ≡ true) (Earlier m p) (λ n. order_laws.ancestor_first (name_at m n) p) (lineage m k c j) (lineage_above m k c j p (rw e (ancestry_laws.parent_above p h)))
 
@@ -185,12 +185,12 @@ module _ {K : Type 0} (m : Meaning K) where
 
   -- MADE NODES
 
-  ceiling_or_small : (e : ℕ) (ns : List (Node K)) → All (λ n. n.ceiling ≤ e) ns → (p : Name) (c : ℕ) → c ≤ e → ceiling_or (node_of m ns p) c ≤ e
+  ceiling_or_small : (e : ℕ) (ns : List (Node K)) → AllByRecursion (λ n. n.ceiling ≤ e) ns → (p : Name) (c : ℕ) → c ≤ e → ceiling_or (node_of m ns p) c ≤ e
   ceiling_or_small e [] h p c l = l
   ceiling_or_small e (n ∷ ns) h p c l =
       cond_both (same_name (name_at m n) p) (Some n) (node_of m ns p) (λ o. ceiling_or o c ≤ e) (λ s. h.0) (λ s. ceiling_or_small e ns h.1 p c l)
 
-  ceiling_up_small : (e : ℕ) (t : Tree K) → t.root.ceiling ≤ e → All (λ n. n.ceiling ≤ e) t.nodes → (p : Name) (d : ℕ) → ceiling_up m t p d ≤ e
+  ceiling_up_small : (e : ℕ) (t : Tree K) → t.root.ceiling ≤ e → AllByRecursion (λ n. n.ceiling ≤ e) t.nodes → (p : Name) (d : ℕ) → ceiling_up m t p d ≤ e
   ceiling_up_small e t r h p zero = r
   ceiling_up_small e t r h p (suc d) = ceiling_or_small e t.nodes h (take (suc d) p) (ceiling_up m t p d) (ceiling_up_small e t r h p d)
 
@@ -269,7 +269,7 @@ module _ {K : Type 0} (m : Meaning K) where
           ceiling_small = omega (arith, h.ceiling_small);
         }
 
-    all_apart_stand : (Q : Name → Type 0) → ((q : Name) → Q q → q ≡ p → ⊥) → (ns : List (Node K)) → All Q (names_of m ns) → All (Waits m low all p) ns → All (Stands m high all) ns
+    all_apart_stand : (Q : Name → Type 0) → ((q : Name) → Q q → q ≡ p → ⊥) → (ns : List (Node K)) → AllByRecursion Q (names_of m ns) → AllByRecursion (Waits m low all p) ns → AllByRecursion (Stands m high all) ns
     all_apart_stand Q apart [] a h = tt
     all_apart_stand Q apart (n ∷ ns) a h =
         (apart_stands n (apart (name_at m n) a.0) h.0, all_apart_stand Q apart ns a.1 h.1)
@@ -284,10 +284,10 @@ module _ {K : Type 0} (m : Meaning K) where
             ceiling_small = omega (arith, h.ceiling_small);
           }
 
-      taken_stands : (ns : List (Node K)) → Sorted (names_of m ns) → All (Waits m low all p) ns → All (Stands m high all) (taken m w 0 p ns)
+      taken_stands : (ns : List (Node K)) → Sorted (names_of m ns) → AllByRecursion (Waits m low all p) ns → AllByRecursion (Stands m high all) (taken m w 0 p ns)
       taken_stands [] o h = tt
       taken_stands (n ∷ ns) o h =
-          cond_both (same_name (name_at m n) p) (took w 0 n ∷ ns) (n ∷ taken m w 0 p ns) (All (Stands m high all))
+          cond_both (same_name (name_at m n) p) (took w 0 n ∷ ns) (n ∷ taken m w 0 p ns) (AllByRecursion (Stands m high all))
           (λ s. (
             took_stands n h.0,
             all_apart_stand (λ q. name_before (name_at m n) q ≡ true) (λ q b e. earlier_differs (name_at m n) q b (name_same (name_at m n) p s ∙ sym e)) ns o.0 h.1,

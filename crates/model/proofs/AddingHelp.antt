@@ -1,7 +1,7 @@
 -- Names and nodes where an add makes new ones.
 use Rattle.std.proofs.Common.{◌≡◌, ℕ, zero, suc, ◌+◌, ◌-◌, ◌/◌, ◌<◌, ◌≤◌, true, false, not, List, [], ◌∷◌, ◌++◌, length, take, drop, sum_by, sym, refl, ap, ◌∙◌, ⊎_elim, div-mul-le_self, one-add, arith}
 use native.Mathlib.Nat.{div-zero}
-use Rattle.std.specs.List.{AllByRecursion as All}
+use Rattle.std.specs.List.{AllByRecursion}
 use Rattle.std.proofs.lemmas.Bool.{and_parts, and_from, or_cases, or_parts, or_from, or_left, or_right, not_from_false, cases_Bool, both_ways, false≢true, cond_both}
 use Rattle.std.proofs.lemmas.List.{take-take, take-map, drop-map, map-append, length_push, length-take-le}
 use Rattle.std.proofs.ByRecursion.{All-push}
@@ -97,7 +97,7 @@ module _ {K : Type 0} (m : Meaning K) where
   abbrev pub Earlier : Name → Node K → Type 0
   Earlier p n = name_before (name_at m n) p ≡ true
 
-  pub not_among_earlier : (ns : List (Node K)) (p : Name) → All (Earlier p) ns → among (names_of m ns) p ≡ false
+  pub not_among_earlier : (ns : List (Node K)) (p : Name) → AllByRecursion (Earlier p) ns → among (names_of m ns) p ≡ false
   not_among_earlier [] p h = refl
   not_among_earlier (n ∷ ns) p h =
       or_from (same_name (name_at m n) p) (among (names_of m ns) p)
@@ -110,7 +110,7 @@ module _ {K : Type 0} (m : Meaning K) where
       let h = or_parts (same_name (name_at m n) p) (among (names_of m fs) p) e in
       rw h.0 (node_behind fs bs p h.1)
 
-  pub front_earlier : (ns : List (Node K)) (p : Name) → All (Earlier p) (take (count_before (names_of m ns) p) ns)
+  pub front_earlier : (ns : List (Node K)) (p : Name) → AllByRecursion (Earlier p) (take (count_before (names_of m ns) p) ns)
   front_earlier [] p = tt
   front_earlier (n ∷ ns) p =
       ⊎_elim
@@ -118,7 +118,7 @@ module _ {K : Type 0} (m : Meaning K) where
       (λ e. rw e tt)
       (cases_Bool (name_before (name_at m n) p))
 
-  pub insert_behind : (n : Node K) (fs bs : List (Node K)) → All (Earlier (name_at m n)) fs → insert m n (fs ++ bs) ≡ fs ++ insert m n bs
+  pub insert_behind : (n : Node K) (fs bs : List (Node K)) → AllByRecursion (Earlier (name_at m n)) fs → insert m n (fs ++ bs) ≡ fs ++ insert m n bs
   insert_behind n [] bs h = refl
   insert_behind n (x ∷ fs) bs h = let rest = insert_behind n fs bs h.1 in rw (h.0, rest)
 
@@ -136,10 +136,10 @@ module _ {K : Type 0} (m : Meaning K) where
       names_of m (insert m n ns) ≡ take at qs ++ name_at m n ∷ drop at qs
   names_insert n ns = rw (insert_at m n ns, map-append, take-map, drop-map)
 
-  pub all_insert : (P : Node K → Type 0) (n : Node K) (ns : List (Node K)) → P n → All P ns → All P (insert m n ns)
+  pub all_insert : (P : Node K → Type 0) (n : Node K) (ns : List (Node K)) → P n → AllByRecursion P ns → AllByRecursion P (insert m n ns)
   all_insert P n [] h k = (h, tt)
   all_insert P n (x ∷ ns) h k =
-      cond_both (name_before (name_at m x) (name_at m n)) (x ∷ insert m n ns) (n ∷ (x ∷ ns)) (All P)
+      cond_both (name_before (name_at m x) (name_at m n)) (x ∷ insert m n ns) (n ∷ (x ∷ ns)) (AllByRecursion P)
       (λ e. (k.0, all_insert P n ns h k.1))
       (λ e. (h, k))
 
@@ -168,7 +168,7 @@ module _ {K : Type 0} (m : Meaning K) where
   length_lineage k c (suc j) =
       omega (arith, length_push (lineage m (m.parent_of k) c j) (fresh k c), length_lineage (m.parent_of k) c j)
 
-  pub lineage_above : (k : K) (c j : ℕ) (p : Name) → above (m.name_of k) p ≡ true → All (λ n. above (name_at m n) p ≡ true) (lineage m k c j)
+  pub lineage_above : (k : K) (c j : ℕ) (p : Name) → above (m.name_of k) p ≡ true → AllByRecursion (λ n. above (name_at m n) p ≡ true) (lineage m k c j)
   lineage_above k c zero p e = tt
   lineage_above k c (suc j) p e =
       All-push (λ n. above (name_at m n) p ≡ true) (lineage m (m.parent_of k) c j) (fresh k c)

@@ -1,6 +1,6 @@
 -- Counts of subtrees, from the run of nodes after a node.
 use Rattle.std.proofs.Common.{◌≡◌, ℕ, ◌+◌, ◌<◌, true, false, cond, List, [], ◌∷◌, ◌++◌, map, length, take, drop, sum_by, sym, refl, ap, ◌∙◌, subst, arith}
-use Rattle.std.specs.List.{AllByRecursion as All}
+use Rattle.std.specs.List.{AllByRecursion}
 use Rattle.std.proofs.lemmas.List.{map-append, length-map, take_all, take-map, drop-map}
 use Rattle.std.proofs.lemmas.List.Sums.{sum_by-cons, sum_by-append, sum_by-take-drop}
 use Rattle.std.proofs.lemmas.Bool.{lt-ltb}
@@ -21,7 +21,7 @@ sum_of_map f g (x ∷ xs) =
     sum_by-cons f (g x) (map g xs) ∙ (ap (λ (n : ℕ). f (g x) + n) (sum_of_map f g xs) ∙ sym (sum_by-cons (λ y. f (g y)) x xs))
 
 -- what holds of all holds of each
-pub all_middle : {X : Type 0} (P : X → Type 0) (xs : List X) (y : X) (ys : List X) → All P (xs ++ y ∷ ys) → P y
+pub all_middle : {X : Type 0} (P : X → Type 0) (xs : List X) (y : X) (ys : List X) → AllByRecursion P (xs ++ y ∷ ys) → P y
 all_middle P [] y ys h = h.0
 all_middle P (x ∷ xs) y ys h = all_middle P xs y ys h.1
 
@@ -31,7 +31,7 @@ root_outside [] h = absurd (omega arith)
 root_outside (s ∷ p) h = refl
 
 -- no name is the root's, so the run after the root is all of them
-run_of_all : (all qs : List Name) → All (Placed all) qs → run_of 0 qs ≡ length qs
+run_of_all : (all qs : List Name) → AllByRecursion (Placed all) qs → run_of 0 qs ≡ length qs
 run_of_all all [] h = refl
 run_of_all all (q ∷ qs) h = rw (lt-ltb 0 (length q) h.0.named) (omega (arith, run_of_all all qs h.1))
 
@@ -39,18 +39,18 @@ module _ {K : Type 0} (m : Meaning K) where
   pub node_named : (fs : List (Node K)) (n : Node K) (bs : List (Node K)) → Formed (names_of m (fs ++ n ∷ bs)) → 0 < length (name_at m n)
   node_named fs n bs f =
       (all_middle (Placed (names_of m (fs ++ n ∷ bs))) (names_of m fs) (name_at m n) (names_of m bs)
-      (subst (All (Placed (names_of m (fs ++ n ∷ bs)))) (map-append (name_at m) fs (n ∷ bs)) f.placed)).named
+      (subst (AllByRecursion (Placed (names_of m (fs ++ n ∷ bs)))) (map-append (name_at m) fs (n ∷ bs)) f.placed)).named
 
   -- what a node counts at or beneath p
   abbrev part : Name → Node K → ℕ
   part p n = cond (covers p (name_at m n)) n.own 0
 
-  parts_within : (p : Name) (ns : List (Node K)) → All (λ q. covers p q ≡ true) (names_of m ns) → sum_by (part p) ns ≡ own_sum ns
+  parts_within : (p : Name) (ns : List (Node K)) → AllByRecursion (λ q. covers p q ≡ true) (names_of m ns) → sum_by (part p) ns ≡ own_sum ns
   parts_within p [] h = refl
   parts_within p (n ∷ ns) h =
       rw (sum_by-cons (part p) n ns, sum_by-cons (λ x. x.own) n ns, h.0, parts_within p ns h.1)
 
-  parts_outside : (p : Name) (ns : List (Node K)) → All (λ q. covers p q ≡ false) (names_of m ns) → sum_by (part p) ns ≡ 0
+  parts_outside : (p : Name) (ns : List (Node K)) → AllByRecursion (λ q. covers p q ≡ false) (names_of m ns) → sum_by (part p) ns ≡ 0
   parts_outside p [] h = refl
   parts_outside p (n ∷ ns) h = rw (sum_by-cons (part p) n ns, h.0, parts_outside p ns h.1)
 
@@ -69,9 +69,9 @@ module _ {K : Type 0} (m : Meaning K) where
       let own_part : part p n ≡ n.own = rw (ancestry_laws.reflexive p) in
       let front : sum_by (part p) fs ≡ 0 = parts_outside p fs beneath.2 in
       let in-run : sum_by (part p) (take run bs) ≡ own_sum (take run bs) =
-      parts_within p (take run bs) (subst (All (λ q. covers p q ≡ true)) (take-map (name_at m) run bs) beneath.0) in
+      parts_within p (take run bs) (subst (AllByRecursion (λ q. covers p q ≡ true)) (take-map (name_at m) run bs) beneath.0) in
       let after : sum_by (part p) (drop run bs) ≡ 0 =
-      parts_outside p (drop run bs) (subst (All (λ q. covers p q ≡ false)) (drop-map (name_at m) run bs) beneath.1) in
+      parts_outside p (drop run bs) (subst (AllByRecursion (λ q. covers p q ≡ false)) (drop-map (name_at m) run bs) beneath.1) in
       let whole = sum_of_owns (λ x. cond (covers p x.name) x.weight 0) r (fs ++ n ∷ bs) in
       omega (arith, whole, root-part, own_part, front, in-run, after, sum_by-append (part p) fs (n ∷ bs), sum_by-cons (part p) n bs, sum_by-take-drop (part p) bs run)
 

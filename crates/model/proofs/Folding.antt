@@ -1,6 +1,6 @@
 -- Folds and sweeps keep a tree sound.
 use Rattle.std.proofs.Common.{◌≡◌, ℕ, zero, suc, ◌+◌, ◌<◌, ◌≤◌, true, false, not, ◌&&◌, eqb, leb, ◌⊎◌, List, [], ◌∷◌, ◌++◌, length, sym, refl, ap, ◌∙◌, subst, inl, inr, ⊎_elim, arith}
-use Rattle.std.specs.List.{AllByRecursion as All}
+use Rattle.std.specs.List.{AllByRecursion}
 use Rattle.std.proofs.lemmas.List.{append_assoc, map-append, length-map}
 use Rattle.std.proofs.ByRecursion.{All-weaker}
 use Rattle.std.proofs.lemmas.List.Sums.{sum_by-cons, sum_by-append}
@@ -67,13 +67,13 @@ was_parent x fs q bs p h g =
     absurd (both_ways (any_beneath x (fs ++ bs)) g (beneath_present x up (fs ++ bs) a p)))
     (cases_Bool (same_name x up))
 
-later_differ : (p : Name) (qs : List Name) → All (λ q. name_before p q ≡ true) qs → All (λ q. q ≡ p → ⊥) qs
+later_differ : (p : Name) (qs : List Name) → AllByRecursion (λ q. name_before p q ≡ true) qs → AllByRecursion (λ q. q ≡ p → ⊥) qs
 later_differ p =
     All-weaker (λ q. name_before p q ≡ true) (λ q. q ≡ p → ⊥) (λ q b d. both_ways (name_before p q) (ap (name_before p) d ∙ name_order.irreflexive p) b)
 
 -- NODES
 
-one_and_rest : {X : Type 0} (P : X → Type 0) (fs : List X) (n : X) (bs : List X) → All P (fs ++ n ∷ bs) → P n × All P (fs ++ bs)
+one_and_rest : {X : Type 0} (P : X → Type 0) (fs : List X) (n : X) (bs : List X) → AllByRecursion P (fs ++ n ∷ bs) → P n × AllByRecursion P (fs ++ bs)
 one_and_rest P [] n bs h = h
 one_and_rest P (x ∷ fs) n bs h =
     let k = one_and_rest P fs n bs h.1 in
@@ -151,7 +151,7 @@ module _ {K : Type 0} (m : Meaning K) (e : ℕ) where
         ceiling_small = h.ceiling_small;
       }
 
-  others_stand : (all : List Name) (own : ℕ) (p : Name) (ns : List (Node K)) → All (λ q. q ≡ p → ⊥) (names_of m ns) → All (Ready all own p) ns → All (Stands m e all) ns
+  others_stand : (all : List Name) (own : ℕ) (p : Name) (ns : List (Node K)) → AllByRecursion (λ q. q ≡ p → ⊥) (names_of m ns) → AllByRecursion (Ready all own p) ns → AllByRecursion (Stands m e all) ns
   others_stand all own p [] d h = tt
   others_stand all own p (n ∷ ns) d h = (other_stands all own p n d.0 h.0, others_stand all own p ns d.1 h.1)
 
@@ -164,10 +164,10 @@ module _ {K : Type 0} (m : Meaning K) (e : ℕ) where
         ceiling_small = omega (arith, h.ceiling_small);
       }
 
-  taken_stands : (all : List Name) (own load : ℕ) (p : Name) (ns : List (Node K)) → load ≤ e → Sorted (names_of m ns) → All (Ready all own p) ns → All (Stands m e all) (taken m own load p ns)
+  taken_stands : (all : List Name) (own load : ℕ) (p : Name) (ns : List (Node K)) → load ≤ e → Sorted (names_of m ns) → AllByRecursion (Ready all own p) ns → AllByRecursion (Stands m e all) (taken m own load p ns)
   taken_stands all own load p [] l s h = tt
   taken_stands all own load p (n ∷ ns) l s h =
-      cond_both (same_name (name_at m n) p) (took own load n ∷ ns) (n ∷ taken m own load p ns) (All (Stands m e all))
+      cond_both (same_name (name_at m n) p) (took own load n ∷ ns) (n ∷ taken m own load p ns) (AllByRecursion (Stands m e all))
       (λ c.
       let d = later_differ p (names_of m ns) (rw (name_same (name_at m n) p c) at s.0) in
       (taker_stands all own load p n l h.0, others_stand all own p ns d h.1))
@@ -176,7 +176,7 @@ module _ {K : Type 0} (m : Meaning K) (e : ℕ) where
       (other_stands all own p n d h.0, taken_stands all own load p ns l s.1 h.1))
 
   -- the root or a stored prefix takes an own count over
-  pub handed_sound : (total own load : ℕ) (p : Name) (r : Root) (ns : List (Node K)) → load ≤ e → Formed (names_of m ns) → is_present (names_of m ns) p ≡ true → All (Ready (names_of m ns) own p) ns → r.ceiling ≤ e → r.own + own_sum ns + own ≡ total → total ≤ largest_total → SoundTree m total e (handed m own load p (tree_of r ns))
+  pub handed_sound : (total own load : ℕ) (p : Name) (r : Root) (ns : List (Node K)) → load ≤ e → Formed (names_of m ns) → is_present (names_of m ns) p ≡ true → AllByRecursion (Ready (names_of m ns) own p) ns → r.ceiling ≤ e → r.own + own_sum ns + own ≡ total → total ≤ largest_total → SoundTree m total e (handed m own load p (tree_of r ns))
   handed_sound total own load [] r ns l f i h c a s =
       record {
         formed = f;
@@ -191,7 +191,7 @@ module _ {K : Type 0} (m : Meaning K) (e : ℕ) where
       record {
         formed = rw same f;
         stands =
-            subst (λ all. All (Stands m e all) (taken m own load (q ∷ p) ns)) (sym same) (taken_stands (names_of m ns) own load (q ∷ p) ns l f.ordered h);
+            subst (λ all. AllByRecursion (Stands m e all) (taken m own load (q ∷ p) ns)) (sym same) (taken_stands (names_of m ns) own load (q ∷ p) ns l f.ordered h);
         root_small = c;
         adds_up = omega (arith, owns_total m r (taken m own load (q ∷ p) ns), own_taken m own load (q ∷ p) ns i);
         total_small = s;

@@ -1,6 +1,6 @@
 -- Lists of names in order, with every parent among them.
 use Rattle.std.proofs.Common.{◌≡◌, ℕ, zero, suc, ◌+◌, ◌<◌, ◌≤◌, Bool, true, false, cond, not, ◌||◌, ltb, ◌⊎◌, List, [], ◌∷◌, ◌++◌, length, get_or, take, drop, sym, refl, ap, ◌∙◌, subst, inl, inr, ⊎_elim, one-add, arith}
-use Rattle.std.specs.List.{prefix_len, AllByRecursion as All}
+use Rattle.std.specs.List.{prefix_len, AllByRecursion}
 use Rattle.std.proofs.lemmas.List.{take-append-drop, take-take, length-take-le}
 use Rattle.std.proofs.ByRecursion.{All-get_or, All-weaker}
 use Rattle.std.proofs.lemmas.Bool.{false≢true, both_ways, cases_Bool, and_from, and_left, and_right, and_parts, or_cases, or_from, or_left, or_right, not_from_true, not_from_false, cond-true, cond_both, ltb-true, ltb-false}
@@ -62,12 +62,12 @@ among-append (f ∷ fs) bs p =
     ap (λ x. same_name f p || x) (among-append fs bs p) ∙ or_assoc (same_name f p) (among fs p) (among bs p)
 
 -- what holds of each holds of one among them, and back
-pub all_among : (P : Name → Type 0) (qs : List Name) (p : Name) → All P qs → among qs p ≡ true → P p
+pub all_among : (P : Name → Type 0) (qs : List Name) (p : Name) → AllByRecursion P qs → among qs p ≡ true → P p
 all_among P [] p a e = absurd (false≢true e)
 all_among P (q ∷ qs) p a e =
     ⊎_elim (λ s. subst P (name_same q p s) a.0) (λ h. all_among P qs p a.1 h) (or_cases (same_name q p) (among qs p) e)
 
-pub from_among : (P : Name → Type 0) (qs : List Name) → ((p : Name) → among qs p ≡ true → P p) → All P qs
+pub from_among : (P : Name → Type 0) (qs : List Name) → ((p : Name) → among qs p ≡ true → P p) → AllByRecursion P qs
 from_among P [] h = tt
 from_among P (q ∷ qs) h =
     (h q (or_left (same_name q q) (among qs q) (name_refl q)), from_among P qs (λ p e. h p (or_right (same_name q p) (among qs p) e)))
@@ -161,11 +161,11 @@ module _ (f : Name → Bool) where
   leading_more : (q : Name) (qs : List Name) → f q ≡ true → prefix_len f (q ∷ qs) ≡ suc (prefix_len f qs)
   leading_more q qs e = cond-true (f q) (1 + prefix_len f qs) 0 e ∙ one-add (prefix_len f qs)
 
-  leading_passes : (qs : List Name) → All (λ q. f q ≡ true) (take (prefix_len f qs) qs)
+  leading_passes : (qs : List Name) → AllByRecursion (λ q. f q ≡ true) (take (prefix_len f qs) qs)
   leading_passes [] = tt
   leading_passes (q ∷ qs) =
       ⊎_elim
-      (λ e. subst (λ n. All (λ q. f q ≡ true) (take n (q ∷ qs))) (sym (leading_more q qs e)) (e, leading_passes qs))
+      (λ e. subst (λ n. AllByRecursion (λ q. f q ≡ true) (take n (q ∷ qs))) (sym (leading_more q qs e)) (e, leading_passes qs))
       (λ e. rw e tt)
       (cases_Bool (f q))
 
@@ -182,7 +182,7 @@ module _ (f : Name → Bool) where
       (λ e. subst (λ n. Stops (drop n (q ∷ qs))) (sym (ap (λ b. cond b (1 + prefix_len f qs) 0) e)) e)
       (cases_Bool (f q))
 
-  leading_same : (g : Name → Bool) (qs : List Name) → All (λ q. f q ≡ g q) qs → prefix_len f qs ≡ prefix_len g qs
+  leading_same : (g : Name → Bool) (qs : List Name) → AllByRecursion (λ q. f q ≡ g q) qs → prefix_len f qs ≡ prefix_len g qs
   leading_same g [] a = refl
   leading_same g (q ∷ qs) a = rw (a.0, leading_same g qs a.1)
 
@@ -288,7 +288,7 @@ parent_earlier fs q bs f =
     present_if (fs ++ q ∷ bs) fs (parent_name q) (λ e. earlier_in_front fs q bs f.ordered (parent_name q) e (parent_first q here.named)) here.parented
 
 -- of the names before q, the last of the level above it is its parent
-pub last_is_parent : (xs : List Name) (p : Name) (ys : List Name) (q : Name) (bs : List Name) → Formed ((xs ++ p ∷ ys) ++ q ∷ bs) → length q ≡ length p + 1 → All (λ y. length y ≡ length p → ⊥) ys → parent_name q ≡ p
+pub last_is_parent : (xs : List Name) (p : Name) (ys : List Name) (q : Name) (bs : List Name) → Formed ((xs ++ p ∷ ys) ++ q ∷ bs) → length q ≡ length p + 1 → AllByRecursion (λ y. length y ≡ length p → ⊥) ys → parent_name q ≡ p
 last_is_parent xs p ys q bs f h n =
     let fs = xs ++ p ∷ ys in
     let there : among fs p ≡ true = among_right xs (p ∷ ys) p (among_here p ys) in
@@ -329,7 +329,7 @@ module _ (fs : List Name) (q : Name) (bs : List Name) (f : Formed (fs ++ q ∷ b
   not_in_front a e = refuted (covers q a) (λ c. covers_not_earlier q a c (in_front fs q bs f.ordered a e))
 
   -- after names with more steps, a name with more steps: its front part of q's length is none of them, so it is q
-  run_covered : (ms rs : List Name) → bs ≡ ms ++ rs → All (λ b. ltb (length q) (length b) ≡ true) ms → (b : Name) → among ms b ≡ true → covers q b ≡ true
+  run_covered : (ms rs : List Name) → bs ≡ ms ++ rs → AllByRecursion (λ b. ltb (length q) (length b) ≡ true) ms → (b : Name) → among ms b ≡ true → covers q b ≡ true
   run_covered ms rs e deep b h =
       let deeper : (x : Name) → among ms x ≡ true → length q < length x = λ x k. ltb-true (length q) (length x) (all_among (λ x. ltb (length q) (length x) ≡ true) ms x deep k) in
       let front = take (length q) b in
@@ -375,7 +375,7 @@ module _ (fs : List Name) (q : Name) (bs : List Name) (f : Formed (fs ++ q ∷ b
       (among-cons r rs b h))
 
 -- the names beneath q are the run after it of names with more steps
-pub run_beneath : (fs : List Name) (q : Name) (bs : List Name) → Formed (fs ++ q ∷ bs) → All (λ b. covers q b ≡ true) (take (run_of (length q) bs) bs) × All (λ b. covers q b ≡ false) (drop (run_of (length q) bs) bs) × All (λ a. covers q a ≡ false) fs
+pub run_beneath : (fs : List Name) (q : Name) (bs : List Name) → Formed (fs ++ q ∷ bs) → AllByRecursion (λ b. covers q b ≡ true) (take (run_of (length q) bs) bs) × AllByRecursion (λ b. covers q b ≡ false) (drop (run_of (length q) bs) bs) × AllByRecursion (λ a. covers q a ≡ false) fs
 run_beneath fs q bs f =
     let deep : Name → Bool = λ b. ltb (length q) (length b) in
     let n = run_of (length q) bs in
@@ -447,7 +447,7 @@ leaf_goes fs q bs f e =
     }
 
 -- into its place
-joins_between : (fs : List Name) (q : Name) (bs : List Name) → Formed (fs ++ bs) → 0 < length q → is_present (fs ++ bs) (parent_name q) ≡ true → All (λ a. name_before a q ≡ true) fs → All (λ b. name_before q b ≡ true) bs → Formed (fs ++ q ∷ bs)
+joins_between : (fs : List Name) (q : Name) (bs : List Name) → Formed (fs ++ bs) → 0 < length q → is_present (fs ++ bs) (parent_name q) ≡ true → AllByRecursion (λ a. name_before a q ≡ true) fs → AllByRecursion (λ b. name_before q b ≡ true) bs → Formed (fs ++ q ∷ bs)
 joins_between fs q bs f h e before after =
     let all = fs ++ q ∷ bs in
     let wider : (x : Name) → is_present (fs ++ bs) x ≡ true → is_present all x ≡ true =
@@ -475,7 +475,7 @@ joins_between fs q bs f h e before after =
     }
 
 -- from the first name on that does not come before p, all come after it
-stops_after : (qs : List Name) (p : Name) → Sorted qs → Stops (λ q. name_before q p) qs → among qs p ≡ false → All (λ q. name_before p q ≡ true) qs
+stops_after : (qs : List Name) (p : Name) → Sorted qs → Stops (λ q. name_before q p) qs → among qs p ≡ false → AllByRecursion (λ q. name_before p q ≡ true) qs
 stops_after [] p s stop n = tt
 stops_after (q ∷ qs) p s stop n =
     let first : name_before p q ≡ true =

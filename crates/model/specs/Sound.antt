@@ -1,6 +1,6 @@
 -- What every reachable state keeps. Each part can be checked node by node.
 use Rattle.std.specs.Prelude.{◌≡◌, ℕ, ◌<◌, ◌≤◌, true, false, List, [], ◌∷◌, length}
-use Rattle.std.specs.List.{AllByRecursion as All}
+use Rattle.std.specs.List.{AllByRecursion}
 use Rattle.prefix.specs.Name.{Name, name_before, parent_name}
 use Rattle.prefix.specs.Meaning.{Meaning}
 use Rattle.model.specs.declared.Node.{Node}
@@ -11,7 +11,7 @@ use Rattle.model.specs.Summary.{is_present, any_beneath, name_at, names_of, owns
 -- strictly in order: each name comes before all later ones
 abbrev pub Sorted : List Name → Type 0
 Sorted [] = Unit {0}
-Sorted (p ∷ qs) = All (λ q. name_before p q ≡ true) qs × Sorted qs
+Sorted (p ∷ qs) = AllByRecursion (λ q. name_before p q ≡ true) qs × Sorted qs
 
 -- not the root's name, and its parent is the root or there too
 pub record Placed (all : List Name) (p : Name) : Type 0 where
@@ -20,7 +20,7 @@ pub record Placed (all : List Name) (p : Name) : Type 0 where
 
 pub record Formed (all : List Name) : Type 0 where
   pub ordered : Sorted all
-  pub placed : All (Placed all) all
+  pub placed : AllByRecursion (Placed all) all
 
 -- what a node keeps: no node has counted nothing and has nothing beneath it
 pub record Stands {K : Type 0} (m : Meaning K) (e : ℕ) (all : List Name) (n : Node K) : Type 0 where
@@ -32,7 +32,7 @@ pub record Stands {K : Type 0} (m : Meaning K) (e : ℕ) (all : List Name) (n : 
 -- a tree whose own counts add up to a total, with slacks and ceilings up to an error
 pub record SoundTree {K : Type 0} (m : Meaning K) (total e : ℕ) (t : Tree K) : Type 0 where
   pub formed : Formed (names_of m t.nodes)
-  pub stands : All (Stands m e (names_of m t.nodes)) t.nodes
+  pub stands : AllByRecursion (Stands m e (names_of m t.nodes)) t.nodes
   pub root_small : t.root.ceiling ≤ e
   pub adds_up : total_of (owns m t) ≡ total
   pub total_small : total ≤ largest_total

@@ -1,6 +1,6 @@
 -- The last kept node of the level above is the parent, and what a node hands up to it is what the definition says.
 use Rattle.std.proofs.Common.{◌≡◌, ℕ, ◌+◌, ◌<◌, ◌≤◌, true, List, [], ◌∷◌, ◌++◌, map, length, get_or, set, Some, None, Option, sym, refl, ap, ◌∙◌, subst, ⊎_elim, arith}
-use Rattle.std.specs.List.{AllByRecursion as All}
+use Rattle.std.specs.List.{AllByRecursion}
 use Rattle.std.proofs.lemmas.List.{append_assoc, map-append, length-append, length-set, get_or_at, set_at}
 use Rattle.std.proofs.ByRecursion.{All-push, All-map}
 use Rattle.std.proofs.lemmas.List.Sums.{sum_by-cons, sum_by-append}
@@ -21,7 +21,7 @@ use Rattle.model.proofs.Folding.{followed, tree_of, fold_shape}
 
 -- no node has so many steps
 abbrev pub NoneOf : {K : Type 0} → Meaning K → ℕ → List (Node K) → Type 0
-NoneOf m l ns = All (λ n. length (name_at m n) ≡ l → ⊥) ns
+NoneOf m l ns = AllByRecursion (λ n. length (name_at m n) ≡ l → ⊥) ns
 
 -- the last node of so many steps stands at an index
 pub record LastOf {K : Type 0} (m : Meaning K) (l at : ℕ) (ns : List (Node K)) : Type 0 where
@@ -40,11 +40,11 @@ ParentIs m l ns (Some at) = LastOf m l at ns
 
 -- LISTS
 
-all_front : {X : Type 0} (P : X → Type 0) (xs ys : List X) → All P (xs ++ ys) → All P xs
+all_front : {X : Type 0} (P : X → Type 0) (xs ys : List X) → AllByRecursion P (xs ++ ys) → AllByRecursion P xs
 all_front P [] ys h = tt
 all_front P (x ∷ xs) ys h = (h.0, all_front P xs ys h.1)
 
-all_middle : {X : Type 0} (P : X → Type 0) (xs : List X) (x : X) (ys : List X) → All P (xs ++ x ∷ ys) → P x
+all_middle : {X : Type 0} (P : X → Type 0) (xs : List X) (x : X) (ys : List X) → AllByRecursion P (xs ++ x ∷ ys) → P x
 all_middle P [] x ys h = h.0
 all_middle P (y ∷ xs) x ys h = all_middle P xs x ys h.1
 

@@ -1,5 +1,6 @@
 // Tests of the summary over address prefixes: runs that were worked out by hand, tables that fill up, the edges of
-// totals and settings, and a long run beside a second summary that is written straight from the rules.
+// totals and settings, the two sweeps of one table, and a long run beside a second summary that is written straight from
+// the rules.
 #![tactic(auto)]
 
 ghost use Rattle.summary_checks.specs.Worked.{WorkedRun};
@@ -14,6 +15,8 @@ mod plain;
 mod room;
 #[cfg(test)]
 mod steps;
+#[cfg(test)]
+mod sweeps;
 #[cfg(test)]
 mod worked;
 

@@ -82,7 +82,7 @@ fn take(
         Step::Sweep(folded) => {
             assert_eq!(rt; summary.sweep(&Octets), *folded, "step {place}");
             Ok(())
-        },
+        }
         Step::Bounds(key, lower, upper) => {
             assert_eq!(rt;
                 summary.bounds(&Octets, prefix(*key)),

@@ -15,9 +15,9 @@ use Rattle.model.specs.Weights.{total_of}
 use Rattle.model.specs.Summary.{among, is_present, any_beneath, missing_up, name_at, names_of, node_of, ceiling_or, ceiling_up, took, root_took, taken, handed, fresh, has_room_for, roomy, insert, made, counted, settled, swept, owns}
 use Rattle.model.specs.Sound.{Sorted, Placed, Formed, Stands, SoundTree, Sound}
 use Rattle.model.specs.Table.{count_before, lineage, own_sum}
-use Rattle.model.proofs.Names.{among-append, none_missing, missing_together, joins}
+use Rattle.model.proofs.Names.{any_from, among-append, none_missing, missing_together, joins}
 use Rattle.model.proofs.Nodes.{no_node, names_taken}
-use Rattle.model.proofs.AddingHelp.{quotient_grows, earlier_differs, present_from_among, beneath_there, among_between, missing_of_front, longest_missing, ceiling_of_front, Earlier, not_among_earlier, node_behind, front_earlier, insert_behind, insert_there, names_insert, all_insert, sum_insert, beneath_insert, length_lineage, lineage_above}
+use Rattle.model.proofs.AddingHelp.{quotient_grows, earlier_differs, present_from_among, among_between, missing_of_front, longest_missing, ceiling_of_front, Earlier, not_among_earlier, node_behind, front_earlier, insert_behind, insert_there, names_insert, all_insert, sum_insert, beneath_insert, length_lineage, lineage_above}
 use Rattle.model.proofs.Counts.{owns_total}
 use Rattle.model.proofs.Folding.{swept_sound}
 
@@ -202,7 +202,7 @@ module _ {K : Type 0} (m : Meaning K) where
         counted_or_newest = λ b.
             ⊎_elim
             (λ o. inl o)
-            (λ s. absurd (both_ways (any_beneath (name_at m n) more) b (beneath_there (name_at m n) p more (rw s a) there)))
+            (λ s. absurd (both_ways (any_beneath (name_at m n) more) b (any_from (name_at m n) more p there (rw s a))))
             (w.counted_or_newest (kept b));
         slack_small = w.slack_small;
         ceiling_small = w.ceiling_small;

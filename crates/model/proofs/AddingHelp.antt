@@ -2,7 +2,7 @@
 use Rattle.std.proofs.Common.{◌≡◌, ℕ, zero, suc, ◌+◌, ◌-◌, ◌/◌, ◌<◌, ◌≤◌, true, false, not, List, [], ◌∷◌, ◌++◌, length, take, drop, sum_by, sym, refl, ap, ◌∙◌, ⊎_elim, div-mul-le_self, one-add, arith}
 use native.Mathlib.Nat.{div-zero}
 use Rattle.std.specs.List.{AllByRecursion}
-use Rattle.std.proofs.lemmas.Bool.{and_parts, and_from, or_cases, or_parts, or_from, or_left, or_right, not_from_false, cases_Bool, both_ways, false≢true, cond_both}
+use Rattle.std.proofs.lemmas.Bool.{and_parts, and_from, or_parts, or_from, or_left, or_right, not_from_false, cases_Bool, both_ways, cond_both}
 use Rattle.std.proofs.lemmas.List.{take-take, take-map, drop-map, map-append, length_push, length-take-le}
 use Rattle.std.proofs.ByRecursion.{All-push}
 use Rattle.std.proofs.lemmas.List.Sums.{sum_by-cons}
@@ -53,14 +53,6 @@ differs_not_same q p d = ⊎_elim (λ s. absurd (d (name_same q p s))) (λ s. s)
 pub present_from_among : (qs : List Name) (p : Name) → among qs p ≡ true → is_present qs p ≡ true
 present_from_among qs [] e = refl
 present_from_among qs (s ∷ p) e = e
-
-pub beneath_there : (q p : Name) (all : List Name) → above q p ≡ true → among all p ≡ true → any_beneath q all ≡ true
-beneath_there q p [] a e = absurd (false≢true e)
-beneath_there q p (r ∷ all) a e =
-    ⊎_elim
-    (λ s. or_left (above q r) (any_beneath q all) (ap (above q) (name_same r p s) ∙ a))
-    (λ h. or_right (above q r) (any_beneath q all) (beneath_there q p all a h))
-    (or_cases (same_name r p) (among all p) e)
 
 pub among_between : (fs : List Name) (p : Name) (bs : List Name) → among (fs ++ p ∷ bs) p ≡ true
 among_between fs p bs = among-append fs (p ∷ bs) p ∙ or_right (among fs p) (among (p ∷ bs) p) (or_left (same_name p p) (among bs p) (name_refl p))

@@ -4,7 +4,7 @@ use Rattle.std.specs.List.{AllByRecursion}
 use Rattle.std.proofs.lemmas.List.{append_assoc, map-append, length-map}
 use Rattle.std.proofs.ByRecursion.{All-weaker}
 use Rattle.std.proofs.lemmas.List.Sums.{sum_by-cons, sum_by-append}
-use Rattle.std.proofs.lemmas.Bool.{both_ways, not-true, not_from_false, leb-true, and_parts, and_from, or_cases, or_parts, or_left, or_right, cases_Bool, cond_both, false≢true}
+use Rattle.std.proofs.lemmas.Bool.{both_ways, not-true, not_from_false, leb-true, and_parts, and_from, or_cases, or_parts, or_left, cases_Bool, cond_both, false≢true}
 use Rattle.prefix.specs.Name.{Name, same_name, name_before, covers, above, parent_name}
 use Rattle.prefix.specs.Meaning.{Meaning}
 use Rattle.prefix.proofs.Names.{ancestry_laws, name_order, name_same}
@@ -14,7 +14,7 @@ use Rattle.model.specs.State.{state_tree, Tree, State, largest_total, error}
 use Rattle.model.specs.Summary.{among, is_present, any_beneath, name_at, names_of, took, taken, handed, removed, folded, is_foldable, folded_among, folded_from, swept_tree, swept}
 use Rattle.model.specs.Sound.{Sorted, Placed, Formed, Stands, SoundTree, Sound}
 use Rattle.model.specs.Table.{own_sum}
-use Rattle.model.proofs.Names.{among-append, parent_earlier, leaf_goes}
+use Rattle.model.proofs.Names.{any_from, among-append, parent_earlier, leaf_goes}
 use Rattle.model.proofs.Nodes.{removed_at, taken_front, names_taken}
 use Rattle.model.proofs.Counts.{owns_total}
 
@@ -31,18 +31,10 @@ present_more : (fs bs : List Name) (p : Name) → is_present fs p ≡ true → i
 present_more fs bs [] h = refl
 present_more fs bs (s ∷ p) h = among-append fs bs (s ∷ p) ∙ or_left (among fs (s ∷ p)) (among bs (s ∷ p)) h
 
-beneath_among : (x p : Name) (qs : List Name) → above x p ≡ true → among qs p ≡ true → any_beneath x qs ≡ true
-beneath_among x p [] a h = absurd (false≢true h)
-beneath_among x p (q ∷ qs) a h =
-    ⊎_elim
-    (λ s. or_left (above x q) (any_beneath x qs) (ap (above x) (name_same q p s) ∙ a))
-    (λ s. or_right (above x q) (any_beneath x qs) (beneath_among x p qs a s))
-    (or_cases (same_name q p) (among qs p) h)
-
 -- the root lies beneath nothing
 beneath_present : (x p : Name) (qs : List Name) → above x p ≡ true → is_present qs p ≡ true → any_beneath x qs ≡ true
 beneath_present x [] qs a h = absurd (omega (arith, ancestry_laws.above_is_shallower x [] a))
-beneath_present x (s ∷ p) qs a h = beneath_among x (s ∷ p) qs a h
+beneath_present x (s ∷ p) qs a h = any_from x qs (s ∷ p) h a
 
 -- something lay beneath x, and without q nothing does
 was_beneath : (x : Name) (fs : List Name) (q : Name) (bs : List Name) → any_beneath x (fs ++ q ∷ bs) ≡ true → any_beneath x (fs ++ bs) ≡ false → above x q ≡ true

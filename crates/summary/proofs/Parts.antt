@@ -4,16 +4,14 @@ use Rattle.std.proofs.lemmas.List.{append_assoc, length-append, length-take-le, 
 use Rattle.prefix.specs.Meaning.{Meaning}
 use Rattle.model.specs.declared.Node.{Node}
 use Rattle.model.specs.declared.Root.{Root}
-use Rattle.model.specs.State.{Tree, largest_total}
+use Rattle.model.specs.State.{largest_total}
 use Rattle.model.specs.Summary.{names_of, swept_tree, bounds_of}
 use Rattle.model.specs.Sound.{Formed, SoundTree}
 use Rattle.model.specs.Table.{lineage}
 use Rattle.table.specs.declared.lookup.Ancestry.{Ancestry}
 use Rattle.table.specs.Ancestors.{Ancestors}
+use Rattle.model.proofs.Folding.{tree_of}
 use Rattle.model.proofs.AddingHelp.{length_lineage}
-
-abbrev tree_of : {K : Type 0} → Root → List (Node K) → Tree K
-tree_of r ns = record { root = r; nodes = ns }
 
 -- what the front part is swept to stands at the front of the whole
 pub swept_part : {K : Type 0} (m : Meaning K) (ns last after : List (Node K)) (used part kept : ℕ) (root root' : Root) (e : ℕ) → part ≡ used → length last ≡ length (take part ns) → kept ≤ length (take part ns) → ((total : ℕ) → SoundTree m total e (tree_of root (take part ns)) → e ≤ largest_total → tree_of root' (take kept last) ≡ swept_tree m e (tree_of root (take part ns))) → (total : ℕ) → SoundTree m total e (tree_of root (take used ns)) → e ≤ largest_total → tree_of root' (take kept (last ++ after)) ≡ swept_tree m e (tree_of root (take used ns))

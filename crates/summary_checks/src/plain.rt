@@ -7,7 +7,7 @@ use octets::AddressPrefix;
 use refusal::Refusal;
 
 // Few enough for the table to fill up in a long run.
-pub const SLOTS: usize = 32;
+pub(crate) const SLOTS: usize = 32;
 
 // The root takes no slot.
 const PLACES: usize = SLOTS + 1;
@@ -18,7 +18,7 @@ const ROOT: AddressPrefix = AddressPrefix {
 };
 
 // The key's ancestor of a length; the key itself where that is no shorter.
-pub fn cut(key: AddressPrefix, length: u8) -> AddressPrefix {
+pub(crate) fn cut(key: AddressPrefix, length: u8) -> AddressPrefix {
     let length = key.length.min(length);
     let cleared = 32u32.saturating_sub(u32::from(length));
     let mask = u32::MAX.checked_shl(cleared).unwrap_or(0);
@@ -33,7 +33,7 @@ fn is_valid(key: AddressPrefix) -> bool {
 }
 
 #[derive(Drop)]
-pub struct Plain {
+pub(crate) struct Plain {
     pub places: [Option<Node<AddressPrefix>>; PLACES],
     width: u64,
     pub total: u64,
@@ -44,7 +44,7 @@ pub struct Plain {
 }
 
 impl Plain {
-    pub fn open(width: u32) -> Plain {
+    pub(crate) fn open(width: u32) -> Plain {
         let mut places = [None; PLACES];
         places[0] = Some(Node::vacant(ROOT));
         Plain {
@@ -56,12 +56,12 @@ impl Plain {
         }
     }
 
-    pub fn error(&self) -> u64 {
+    pub(crate) fn error(&self) -> u64 {
         self.total.checked_div(self.width).unwrap_or(0)
     }
 
     // The deepest stored node at or above a key.
-    pub fn nearest(&self, key: AddressPrefix) -> Node<AddressPrefix> {
+    pub(crate) fn nearest(&self, key: AddressPrefix) -> Node<AddressPrefix> {
         let mut nearest = Node::vacant(ROOT);
         for place in self.places.iter() {
             if let Some(node) = place
@@ -90,12 +90,12 @@ impl Plain {
     }
 
     // How many slots are in use.
-    pub fn stored(&self) -> usize {
+    pub(crate) fn stored(&self) -> usize {
         let (stored, _) = self.beneath(ROOT);
         stored.saturating_sub(1)
     }
 
-    pub fn bounds(&self, key: AddressPrefix) -> Result<(u64, u64), Refusal> {
+    pub(crate) fn bounds(&self, key: AddressPrefix) -> Result<(u64, u64), Refusal> {
         if !is_valid(key) {
             return Err(Refusal::KeyNotValid);
         }
@@ -180,7 +180,7 @@ impl Plain {
         }
     }
 
-    pub fn sweep(&mut self) -> usize {
+    pub(crate) fn sweep(&mut self) -> usize {
         let before = self.folded;
         for length in [32u8, 24, 16, 8] {
             self.fold_length(length);
@@ -188,7 +188,7 @@ impl Plain {
         self.folded.saturating_sub(before)
     }
 
-    pub fn add(&mut self, key: AddressPrefix, weight: u32) -> Result<u64, Refusal> {
+    pub(crate) fn add(&mut self, key: AddressPrefix, weight: u32) -> Result<u64, Refusal> {
         if !is_valid(key) {
             return Err(Refusal::KeyNotValid);
         }

@@ -7,16 +7,16 @@ use std::test::Fail;
 use summary::Summary;
 
 // A prefix by its octets and its length.
-pub type Dotted = ([u8; 4], u8);
+pub(crate) type Dotted = ([u8; 4], u8);
 
 // A stored node: octets, length, own count, slack and ceiling.
-pub type Slot = ([u8; 4], u8, u64, u64, u64);
+pub(crate) type Slot = ([u8; 4], u8, u64, u64, u64);
 
 // The largest total that is accepted, 2^48 - 1.
-pub const LARGEST_TOTAL: u64 = 281_474_976_710_655;
+pub(crate) const LARGEST_TOTAL: u64 = 281_474_976_710_655;
 
 // What fills a table before it is lent.
-pub const VACANT: Node<AddressPrefix> = Node {
+pub(crate) const VACANT: Node<AddressPrefix> = Node {
     key: AddressPrefix {
         address: 0,
         length: 0,
@@ -26,7 +26,7 @@ pub const VACANT: Node<AddressPrefix> = Node {
     ceiling: 0,
 };
 
-pub enum Step {
+pub(crate) enum Step {
     // a key, a weight, and the total after it or the number of the refusal
     Add(Dotted, u32, Result<u64, u8>),
     // a key, a weight that is accepted, and how often
@@ -45,7 +45,7 @@ fn prefix(dotted: Dotted) -> AddressPrefix {
     }
 }
 
-pub fn slot(node: &Node<AddressPrefix>) -> Slot {
+pub(crate) fn slot(node: &Node<AddressPrefix>) -> Slot {
     let octets = node.key.address.to_be_bytes();
     (octets, node.key.length, node.own, node.slack, node.ceiling)
 }
@@ -104,12 +104,12 @@ fn play(rt: &impl Abort, nodes: &mut [Node<AddressPrefix>], steps: &[Step]) -> R
 }
 
 // A slot of a table against the node that it should hold.
-pub fn check_slot(rt: &impl Abort, node: &Node<AddressPrefix>, expected: Slot) {
+pub(crate) fn check_slot(rt: &impl Abort, node: &Node<AddressPrefix>, expected: Slot) {
     assert_eq!(rt; slot(node), expected);
 }
 
 // Takes the steps with a summary over the table; when it is gone, the table begins with the nodes that are left.
-pub fn run(
+pub(crate) fn run(
     rt: &impl Abort,
     nodes: &mut [Node<AddressPrefix>],
     steps: &[Step],

@@ -13,10 +13,11 @@ use Rattle.model.specs.declared.Root.{Root}
 use Rattle.model.specs.State.{Tree, largest_total}
 use Rattle.model.specs.Weights.{Weighted, total_of}
 use Rattle.model.specs.Summary.{among, is_present, name_at, names_of, took, root_took, taken, handed, folded, owns}
-use Rattle.model.specs.Sound.{Sorted, Placed, Formed, Stands, SoundTree}
+use Rattle.model.specs.Sound.{Placed, Formed, Stands, SoundTree}
 use Rattle.sweep.specs.Handing.{capped, load_of, takes, root_takes, Within, HandedUp}
-use Rattle.model.proofs.Names.{parent_earlier, last_is_parent}
+use Rattle.model.proofs.Names.{sorted_left, parent_earlier, last_is_parent}
 use Rattle.model.proofs.Nodes.{taken_at}
+use Rattle.model.proofs.Counts.{all_middle}
 use Rattle.model.proofs.Folding.{followed, tree_of, fold_shape}
 
 -- no node has so many steps
@@ -43,14 +44,6 @@ ParentIs m l ns (Some at) = LastOf m l at ns
 all_front : {X : Type 0} (P : X → Type 0) (xs ys : List X) → AllByRecursion P (xs ++ ys) → AllByRecursion P xs
 all_front P [] ys h = tt
 all_front P (x ∷ xs) ys h = (h.0, all_front P xs ys h.1)
-
-all_middle : {X : Type 0} (P : X → Type 0) (xs : List X) (x : X) (ys : List X) → AllByRecursion P (xs ++ x ∷ ys) → P x
-all_middle P [] x ys h = h.0
-all_middle P (y ∷ xs) x ys h = all_middle P xs x ys h.1
-
-sorted_front : (ps qs : List Name) → Sorted (ps ++ qs) → Sorted ps
-sorted_front [] qs h = tt
-sorted_front (p ∷ ps) qs h = (all_front _ ps qs h.0, sorted_front ps qs h.1)
 
 module _ {K : Type 0} (m : Meaning K) where
   -- THE PARENT AMONG THE KEPT NODES
@@ -189,7 +182,7 @@ module _ {K : Type 0} (m : Meaning K) where
           let plain : took n.own load p ≡ takes n p = cc in
           ap (λ (x : Name). handed m n.own load x (tree_of r fs)) parent
           ∙ handed_to_node n.own load (tree_of r fs) (name_at m p) named
-          ∙ ap (tree_of r) (taken_at m n.own load xs p ys (sorted_front (names_of m fs) (q ∷ names_of m bs) formed.ordered))
+          ∙ ap (tree_of r) (taken_at m n.own load xs p ys (sorted_left (names_of m fs) (q ∷ names_of m bs) formed.ordered))
           ∙ ap (λ (x : Node K). tree_of r (xs ++ x ∷ ys)) plain
 
       handed_is : (l : ℕ) (r : Root) (fs : List (Node K)) (n : Node K) (bs : List (Node K)) (p : Option ℕ) (r' : Root) (fs' : List (Node K)) → SoundTree m total e (tree_of r (fs ++ n ∷ bs)) → length (name_at m n) ≡ l + 1 → ParentIs m l fs p → HandedUp p n r fs r' fs' → handed m n.own (n.own + n.slack) (parent_name (name_at m n)) (tree_of r fs) ≡ tree_of r' fs'

@@ -1,5 +1,5 @@
 -- Climbing from a key to its nearest stored ancestor.
-use Rattle.std.proofs.Common.{◌≡◌, ℕ, zero, suc, ◌+◌, ◌-◌, ◌<◌, true, false, List, [], ◌∷◌, ◌++◌, length, get_or, take, drop, Some, None, sym, refl, ap, ◌∙◌, subst, arith}
+use Rattle.std.proofs.Common.{◌≡◌, ℕ, zero, suc, ◌+◌, ◌-◌, ◌<◌, true, false, List, ◌∷◌, ◌++◌, length, get_or, take, drop, Some, None, sym, ap, ◌∙◌, subst, arith}
 use Rattle.std.specs.List.{HoldsAt}
 use Rattle.std.proofs.lemmas.List.{take-append-drop, drop_more}
 use Rattle.prefix.specs.Name.{Name}
@@ -8,17 +8,14 @@ use Rattle.prefix.proofs.Names.{Climbed, climbed_none, climbed_more}
 use Rattle.model.specs.declared.Node.{Node}
 use Rattle.model.specs.declared.Root.{Root}
 use Rattle.model.specs.State.{Tree}
-use Rattle.model.specs.Summary.{among, is_present, missing_up, name_at, names_of, node_of, ceiling_or, ceiling_up}
+use Rattle.model.specs.Summary.{among, missing_up, name_at, names_of, node_of, ceiling_or, ceiling_up}
 use Rattle.model.specs.Sound.{Sorted, Formed}
 use Rattle.table.specs.declared.lookup.Ancestry.{Ancestry}
 use Rattle.table.specs.Ancestors.{Ancestors}
 use Rattle.model.proofs.Names.{none_missing}
 use Rattle.model.proofs.Nodes.{node_at, no_node}
+use Rattle.model.proofs.AddingHelp.{present_from_among}
 use Rattle.table.proofs.Positions.{Place, among_names}
-
-present : (qs : List Name) (p : Name) → among qs p ≡ true → is_present qs p ≡ true
-present qs [] e = refl
-present qs (s ∷ p) e = e
 
 -- a root of which only the ceiling is known
 abbrev pub bare : ℕ → Root
@@ -97,7 +94,7 @@ module _ {K : Type 0} (m : Meaning K) (root : Root) (stored : List (Node K)) whe
         let some : 0 < k = omega arith in
         let is : take k p ≡ name_at m (get_or stored j d) = sym was.0 ∙ sym (there d) in
         let here : among (names_of m stored) (take k p) ≡ true = ap (among (names_of m stored)) is ∙ among_names m stored j d l in
-        let none = none_missing (names_of m stored) f p k (omega arith) (present (names_of m stored) (take k p) here) in
+        let none = none_missing (names_of m stored) f p k (omega arith) (present_from_among (names_of m stored) (take k p) here) in
         record {
           missing_is = omega (arith, (was.1 f).0);
           ceiling_is =

@@ -1,41 +1,36 @@
--- One more digit of a list that is read from the front.
-use Rattle.std.proofs.Common.{◌≡◌, ℕ, ◌+◌, ◌-◌, ◌*◌, ◌^◌, ◌<◌, ◌≤◌, Bool, true, false, cond, ◌&&◌, leb, List, length, get_or, drop, Some, None, Option, sym, refl, ◌∙◌, pow-suc, add-one, arith, drop-cons}
-use Rattle.std.proofs.lemmas.List.{drop_all}
-use Rattle.std.proofs.lemmas.Bool.{and_parts, leb-true}
-use Rattle.fields.specs.Weight.{is_digit, all_digits, spelled}
+-- The digits of a weight are the library's, so what a weight spells is what the library parses.
+use Rattle.std.proofs.Common.{◌≡◌, ◌≢◌, ℕ, ◌<◌, ◌^◌, true, List, length, get_or, Some, None, Ok, Err, Result, MatchResult, subst, rules, arith}
+use Rattle.std.specs.Result.{OkIff, result_ok}
+use Rattle.std.specs.Str.{IsUtf8}
+use Rattle.std.specs.Str.Parse.{ParsesUnsigned}
+use Rattle.std.proofs.lemmas.Str.{IsUtf8-from_ascii}
+use Rattle.std.proofs.lemmas.Str.Ascii.{IsAscii-from_reads}
+use Rattle.std.proofs.lemmas.Str.Parse.{IsNumeralModel, numerals_by_fold, parse_plain, digit_at}
+use Rattle.std.proofs.lemmas.Bool.{false_from_ne_true}
+use Rattle.std.proofs.lemmas.Grind.{common_steps}
+use Rattle.fields.specs.Weight.{all_digits, spelled, value_of}
 
-module _ (ds : List ℕ) (i : ℕ) (h : i < length ds) where
-  spelled_more : (v : ℕ) → spelled v (drop i ds) ≡ spelled (10 * v + (get_or ds i 0 - 48)) (drop (i + 1) ds)
-  spelled_more v = rw (add-one, drop-cons ds i 0 h)
+numerals : IsNumeralModel (λ ds. all_digits ds ≡ true) (spelled 0)
+numerals = numerals_by_fold _ (search rules) spelled (search rules)
 
-  all_digits_more : all_digits (drop i ds) ≡ is_digit (get_or ds i 0) && all_digits (drop (i + 1) ds)
-  all_digits_more = rw (add-one, drop-cons ds i 0 h)
+digits_are_text : (ds : List ℕ) → all_digits ds ≡ true → IsUtf8 ds
+digits_are_text ds e = IsUtf8-from_ascii ds (IsAscii-from_reads ds (length ds) (omega arith) (λ k l. omega (arith, digit_at ds k (numerals.to ds e) l)))
 
-none_fails : (t : Bool) (v : ℕ) → ◌≡◌ {A = Option ℕ} None (cond t (Some v) None) → t ≡ false
-none_fails true v e = cc
-none_fails false v e = refl
+module _ {X Y : Type 0} (P : X → Type 0) (Q : Y → Type 0) (ds : List ℕ) where
+  -- bytes that are no text spell nothing
+  pub no_text : (r : Result X Y) → MatchResult r P (λ e. ¬ (IsUtf8 ds) × Q e) → result_ok r ≡ None → value_of ds ≡ None
+  no_text (Ok x) h e = cc
+  no_text (Err y) h e =
+      let f = false_from_ne_true (all_digits ds) (λ d. h.0 (digits_are_text ds d)) in grind (arith, common_steps)
 
-some_holds : (t : Bool) (v x : ℕ) → Some x ≡ cond t (Some v) None → (t ≡ true) × (x ≡ v)
-some_holds true v x e = (refl, cc)
-some_holds false v x e = (cc, cc)
+  pub text_is : (r : Result X Y) (x : X) → MatchResult r P Q → result_ok r ≡ Some x → P x
+  text_is (Ok z) x h e = let f : z ≡ x = cc in subst P f h
+  text_is (Err y) x h e = cc
 
--- a byte that is no digit: the whole list is no number
-pub no_digit : (ds : List ℕ) (i : ℕ) → i < length ds → ◌≡◌ {A = Option ℕ} None (cond (is_digit (get_or ds i 0)) (Some (get_or ds i 0 - 48)) None) → all_digits (drop i ds) ≡ all_digits ds → all_digits ds ≡ false
-no_digit ds i h e inv =
-    let f = none_fails (is_digit (get_or ds i 0)) (get_or ds i 0 - 48) e in
-    sym inv ∙ all_digits_more ds i h ∙ rw f refl
+spelled_by : {E : Type 0} (ds : List ℕ) (r : Result ℕ E) → OkIff r ((all_digits ds ≡ true) × (0 < length ds) × (spelled 0 ds < 2 ^ 32)) (spelled 0 ds) → result_ok r ≡ value_of ds
+spelled_by ds (Ok x) h = grind (arith, common_steps)
+spelled_by ds (Err y) h = grind (arith, common_steps)
 
--- one more digit
-pub one_more : (ds : List ℕ) (i v x : ℕ) → i < length ds → Some x ≡ cond (is_digit (get_or ds i 0)) (Some (get_or ds i 0 - 48)) None → v < 10 ^ i → (spelled v (drop i ds) ≡ spelled (10 * v + x) (drop (i + 1) ds)) × (all_digits (drop i ds) ≡ all_digits (drop (i + 1) ds)) × (10 * v + x < 10 ^ (i + 1))
-one_more ds i v x h e below =
-    let d = some_holds (is_digit (get_or ds i 0)) (get_or ds i 0 - 48) x e in
-    let small = leb-true (get_or ds i 0) 57 (and_parts (leb 48 (get_or ds i 0)) (leb (get_or ds i 0) 57) d.0).1 in
-    (rw d.1 (spelled_more ds i h v), all_digits_more ds i h ∙ rw d.0 refl, rw (add-one, pow-suc) (omega arith))
-
--- nothing is left to read
-pub all_read : (ds : List ℕ) (i v : ℕ) → length ds ≤ i → spelled v (drop i ds) ≡ spelled 0 ds → all_digits (drop i ds) ≡ all_digits ds → Some v ≡ cond (all_digits ds) (Some (spelled 0 ds)) None
-all_read ds i v h e f =
-    let n = drop_all i ds h in
-    let d : v ≡ spelled 0 ds = rw n at e in
-    let t : true ≡ all_digits ds = rw n at f in
-    rw (← t, ← d) refl
+-- what is parsed from a text without a plus
+pub parsed : {E : Type 0} (ds : List ℕ) (r : Result ℕ E) → ParsesUnsigned 32 10 ds r → get_or ds 0 0 ≢ 43 → result_ok r ≡ value_of ds
+parsed ds r h n = spelled_by ds r (parse_plain numerals 32 ds r h n)

@@ -26,5 +26,9 @@ has_weight_form bs = nat_le 1 (length bs) && (nat_le (length bs) 10 && (not (has
 abbrev pub largest_weight : ℕ
 largest_weight = 4294967295
 
+-- the number that bytes spell which are digits and nothing else, up to the largest weight
+abbrev pub value_of : List ℕ → Option ℕ
+value_of bs = cond (nat_le 1 (length bs) && (all_digits bs && nat_le (spelled 0 bs) largest_weight)) (Some (spelled 0 bs)) None
+
 abbrev pub weight_of : List ℕ → Option ℕ
 weight_of bs = cond (has_weight_form bs && nat_le (spelled 0 bs) largest_weight) (Some (spelled 0 bs)) None

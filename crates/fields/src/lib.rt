@@ -3,61 +3,46 @@
 // spelling.
 #![tactic(auto)]
 
-ghost use Rattle.std.specs.Prelude.{◌≡◌, ℕ, ◌-◌, ◌<◌, ◌≤◌, length, if◌then◌else◌, Some, None, ◌≢◌, slice_index};
-ghost use Rattle.fields.specs.Weight.{is_digit, all_digits, spelled, weight_of};
+ghost use Rattle.std.specs.Prelude.{◌≡◌, ◌+◌, ◌≢◌, ◌==◌, length, position, slice_index, IfSome};
+ghost use Rattle.std.specs.Option.{option_map};
+ghost use Rattle.fields.specs.Split.{split};
+ghost use Rattle.fields.specs.Weight.{value_of, weight_of};
 
 const MOST_DIGITS: usize = 10;
 
-// Where a byte first stands, or the length where it does not.
-pub fn index_of(bytes: &[u8], byte: u8) -> usize
-    ensures within { result ≤ length bytes.now }
-    ensures before { (k : ℕ) → k < result → slice_index bytes.now k ≢ byte }
-    ensures found { result < length bytes.now → slice_index bytes.now result ≡ byte }
+// Where a byte first stands.
+pub fn index_of(bytes: &[u8], byte: u8) -> Option<usize>
+    ensures { result ≡ position (λ other. other == byte) bytes.now }
 {
-    for (i, other) in bytes.iter().enumerate() {
-        if *other == byte {
-            return i;
-        }
-    }
-    bytes.len()
+    bytes.iter().position(|other| *other == byte)
 }
 
-fn digit_value(byte: u8) -> Option<u64>
-    ensures { result ≡ (if is_digit byte then Some (byte - 48) else None) }
+// The bytes before the first such byte, and those behind it.
+#[tactic(auto, using(crate::proofs::Splitting::split_is, std::proofs::lemmas::Grind::common_steps))]
+pub fn split_at_byte(bytes: &[u8], byte: u8) -> Option<(&[u8], &[u8])>
+    ensures parts { option_map (λ p. (p.0.now, p.1.now)) result ≡ split byte bytes.now }
+    ensures lengths { IfSome result (λ p. length p.0.now + (1 + length p.1.now) ≡ length bytes.now) }
 {
-    match byte {
-        b'0'..=b'9' => Some(u64::from(byte - b'0')),
-        _ => None,
-    }
+    let at = index_of(bytes, byte)?;
+    Some((&bytes[..at], &bytes[at + 1..]))
 }
 
-// The number that the bytes spell, or none where one of them is no digit.
-fn spell(digits: &[u8]) -> Option<u64>
-    requires { length digits.now ≤ 10 }
-    ensures { result ≡ (if all_digits digits.now then Some (spelled 0 digits.now) else None) }
+// The number that the bytes spell, or none where one of them is no digit or the number is too large. A plus before the
+// digits would be parsed too, so the caller rules that out.
+fn spell(digits: &[u8]) -> Option<u32>
+    requires { slice_index digits.now 0 ≢ 43 }
+    ensures { result ≡ value_of digits.now }
 {
-    let mut value: u64 = 0;
-    for byte in digits {
-        let Some(digit) = digit_value(*byte) else {
-            return None;
-        };
-        value = 10 * value + digit;
-    }
-    Some(value)
+    str::from_utf8(digits).ok()?.parse().ok()
 }
 
 // The weight that the bytes spell, or none where they have another form or spell too large a number.
 pub fn read_weight(digits: &[u8]) -> Option<u32>
     ensures { result ≡ weight_of digits.now }
 {
-    if digits.is_empty() || digits.len() > MOST_DIGITS {
-        return None;
-    }
-    if digits.len() > 1 && digits[0] == b'0' {
-        return None;
-    }
-    match spell(digits) {
-        Some(value) => u32::try_from(value).ok(),
-        None => None,
+    match digits {
+        [b'+', ..] | [b'0', _, ..] => None,
+        _ if digits.len() > MOST_DIGITS => None,
+        _ => spell(digits),
     }
 }

@@ -1,2 +1,3 @@
-mod Runs
 mod Stored
+mod Listed
+mod Later

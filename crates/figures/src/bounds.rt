@@ -1,58 +1,59 @@
 // The bounds of a prefix: its subtree count, and that with its slack.
-ghost use Rattle.std.specs.Prelude.{◌≡◌, ℕ, ◌+◌, ◌^◌, ◌<◌, ◌≤◌, length};
+ghost use Rattle.std.specs.Prelude.{◌≡◌, ℕ, ◌+◌, ◌^◌, ◌<◌, ◌≤◌, nat_lt, length};
+ghost use Rattle.std.specs.List.{prefix_len, take_while};
 ghost use Rattle.model.specs.State.{largest_total};
 ghost use Rattle.model.specs.Summary.{name_at, bounds_of};
 ghost use Rattle.model.specs.Sound.{SoundTree};
-ghost use Rattle.model.specs.Table.{own_sum, run_count};
+ghost use Rattle.model.specs.Table.{own_sum};
 
 use model::{Node, Root};
 use prefix::{Hierarchy, OrderedHierarchy};
 use table::climb;
 
-// The own counts at the front of the nodes, as far as they lie beneath a prefix of this level.
-fn run_count<K: Copy, H: Hierarchy<Key = K>>(hierarchy: &H, nodes: &[Node<K>], level: usize) -> u64
-    ensures { own_sum nodes.now < 2 ^ 64 → result ≡ run_count (H.Hierarchy.means hierarchy.now) level nodes.now }
+// How many nodes at the front are of a greater level.
+fn run_len<K: Copy, H: Hierarchy<Key = K>>(hierarchy: &H, nodes: &[Node<K>], level: usize) -> usize
+    ensures { result ≡ prefix_len (λ n. nat_lt level (length (name_at (H.Hierarchy.means hierarchy.now) n))) nodes.now }
+{
+    nodes
+        .iter()
+        .take_while(|node| hierarchy.level(node.key) > level)
+        .count()
+}
+
+// The nodes beneath a prefix, from its node and the nodes after it.
+pub(crate) fn run_beneath<'a, K: Copy, H: Hierarchy<Key = K>>(
+    hierarchy: &H,
+    node: Node<K>,
+    after: &'a [Node<K>],
+) -> &'a [Node<K>]
+    ensures { result.now ≡ take_while (λ n. nat_lt (length (name_at (H.Hierarchy.means hierarchy.now) node)) (length (name_at (H.Hierarchy.means hierarchy.now) n))) after.now }
+{
+    &after[..run_len(hierarchy, after, hierarchy.level(node.key))]
+}
+
+// The own counts of a run.
+fn run_count<K: Copy>(run: &[Node<K>]) -> u64
+    ensures { own_sum run.now < 2 ^ 64 → result ≡ own_sum run.now }
 {
     let mut sum: u64 = 0;
-    for i in 0..nodes.len() {
-        let node = nodes[i];
-        if hierarchy.level(node.key) <= level {
-            break;
-        }
-        sum = sum.saturating_add(node.own);
+    // By index: the rules of the project name this sum as a loop over the slots, with an index.
+    for i in 0..run.len() {
+        sum = sum.saturating_add(run[i].own);
     }
     sum
 }
 
-// The bounds of a stored prefix, from its node and the nodes after it.
-pub(crate) fn node_bounds<K: Copy, H: Hierarchy<Key = K>>(
-    hierarchy: &H,
-    node: Node<K>,
-    after: &[Node<K>],
-) -> (u64, u64)
+// The bounds of a prefix, from its node and the nodes beneath it. Here and below the two are a pair of numbers, as the project
+// asks, so that the lower is no more than the upper stands in the clauses.
+pub(crate) fn node_bounds<K: Copy>(node: Node<K>, run: &[Node<K>]) -> (u64, u64)
     ensures low { result.0 ≤ result.1 }
-    ensures value { node.own + (own_sum after.now + node.slack) < 2 ^ 64 → result ≡ (node.own + run_count (H.Hierarchy.means hierarchy.now) (length (name_at (H.Hierarchy.means hierarchy.now) node)) after.now, node.own + run_count (H.Hierarchy.means hierarchy.now) (length (name_at (H.Hierarchy.means hierarchy.now) node)) after.now + node.slack) }
+    ensures value { node.own + (own_sum run.now + node.slack) < 2 ^ 64 → result ≡ (node.own + own_sum run.now, node.own + own_sum run.now + node.slack) }
 {
-    let subtree = node
-        .own
-        .saturating_add(run_count(hierarchy, after, hierarchy.level(node.key)));
+    let subtree = node.own.saturating_add(run_count(run));
     (subtree, subtree.saturating_add(node.slack))
 }
 
-// The bounds of the root: the own counts of all nodes and its own.
-pub(crate) fn root_bounds<K: Copy, H: Hierarchy<Key = K>>(
-    hierarchy: &H,
-    stored: &[Node<K>],
-    root: Root,
-) -> (u64, u64)
-    ensures low { result.0 ≤ result.1 }
-    ensures value { root.own + own_sum stored.now < 2 ^ 64 → result ≡ (root.own + run_count (H.Hierarchy.means hierarchy.now) 0 stored.now, root.own + run_count (H.Hierarchy.means hierarchy.now) 0 stored.now) }
-{
-    let subtree = root.own.saturating_add(run_count(hierarchy, stored, 0));
-    (subtree, subtree)
-}
-
-// The bounds of any prefix: where it is not stored, 0 and the ceiling of the nearest stored ancestor or root.
+// The nodes and the key stay two arguments, as in `table`. The bounds of any prefix: where it is not stored, 0 and the ceiling of the nearest stored ancestor or root.
 pub fn bounds_of<K: Copy, H: OrderedHierarchy<Key = K>>(
     hierarchy: &H,
     stored: &[Node<K>],
@@ -66,8 +67,10 @@ pub fn bounds_of<K: Copy, H: OrderedHierarchy<Key = K>>(
     if ancestry.missing > 0 {
         return (0, ancestry.ceiling);
     }
-    match ancestry.nearest {
-        Some(at) => node_bounds(hierarchy, stored[at], &stored[at + 1..stored.len()]),
-        None => root_bounds(hierarchy, stored, root),
-    }
+    let Some(at) = ancestry.nearest else {
+        let node = root.as_node(hierarchy.root());
+        return node_bounds(node, run_beneath(hierarchy, node, stored));
+    };
+    let node = stored[at];
+    node_bounds(node, run_beneath(hierarchy, node, &stored[at + 1..]))
 }

@@ -1,20 +1,42 @@
 // The rows of the heavy prefixes, in name order: each with what is left of its count once the listed prefixes beneath it
 // are taken out.
-ghost use Rattle.std.specs.Prelude.{◌≡◌, ◌<◌, ◌≤◌, length, IfSome};
+ghost use Rattle.std.specs.Prelude.{◌≡◌, ◌≤◌, ◌∷◌, true, not, length, drop, IfSome};
+ghost use Rattle.std.specs.List.{All};
+ghost use Rattle.prefix.specs.Name.{name_before};
 ghost use Rattle.model.specs.State.{is_heavy};
+ghost use Rattle.model.specs.Summary.{name_at, names_of};
+ghost use Rattle.model.specs.Sound.{Sorted};
+ghost use Rattle.figures.specs.Listed.{root_node, IsListed, IsAnyListed};
 
-use super::bounds::{node_bounds, root_bounds};
+use super::bounds::{node_bounds, run_beneath};
 use model::{Node, Root};
 use prefix::{Hierarchy, LEVELS, OrderedHierarchy};
-use table::climb;
+use std::alloc::AllocError;
 
 // A listed prefix: both bounds of its count, and its discounted count.
-#[derive(Clone, Copy)]
+#[derive(Copy)]
 pub struct Row<K> {
     pub key: K,
     pub lower: u64,
     pub upper: u64,
     pub discounted: u64,
+    pub ghost ordered: { lower ≤ upper },
+}
+
+// By hand: beside a ghost field `Clone` can't be derived.
+impl<K: Clone> Clone for Row<K> {
+    ghost is_clone = { λ x y. K.is_clone x.key y.key × (y.lower ≡ x.lower) × (y.upper ≡ x.upper) × (y.discounted ≡ x.discounted) };
+
+    ghost is_infallible = { λ x. K.is_infallible x.key };
+
+    fn clone(&self) -> Result<Self, AllocError> {
+        Ok(Row {
+            key: self.key.clone()?,
+            lower: self.lower,
+            upper: self.upper,
+            discounted: self.discounted,
+        })
+    }
 }
 
 // The count from which a prefix is heavy, as a share of the one summary's total.
@@ -33,23 +55,17 @@ impl Threshold {
     }
 }
 
-// Where the run beneath a prefix of this level ends.
-fn run_end<K: Copy, H: Hierarchy<Key = K>>(hierarchy: &H, nodes: &[Node<K>], level: usize) -> usize
-    ensures { result ≤ length nodes.now }
-{
-    for i in 0..nodes.len() {
-        if hierarchy.level(nodes[i].key) <= level {
-            return i;
-        }
-    }
-    nodes.len()
-}
-
+// The threshold goes beside each node that it is held against: it is the same for all of them.
+//
 // Weighs a node with what is left of those beneath it: what is left of a light one is added to its parent's, what is
 // left of a heavy one is taken out.
-fn weigh<K: Copy>(node: Node<K>, level: usize, threshold: Threshold, left: &mut [u64])
-    requires { level < length left.old }
-{
+fn weigh<K: Copy, H: Hierarchy<Key = K>>(
+    hierarchy: &H,
+    node: Node<K>,
+    threshold: Threshold,
+    left: &mut [u64; LEVELS],
+) {
+    let level = hierarchy.level(node.key);
     let count = node.own.saturating_add(left[level]);
     left[level] = 0;
     if !threshold.is_met_by(count.saturating_add(node.slack)) {
@@ -58,80 +74,36 @@ fn weigh<K: Copy>(node: Node<K>, level: usize, threshold: Threshold, left: &mut 
     }
 }
 
-// Weighs the nodes of a run, the last first; in the end `left` has, for the prefix above the run, what is left
-// beneath it.
-fn weigh_run<K: Copy, H: Hierarchy<Key = K>>(
-    hierarchy: &H,
-    run: &[Node<K>],
-    threshold: Threshold,
-    left: &mut [u64],
-)
-    requires { length left.old ≡ 33 }
-{
-    for i in (0..run.len()).rev() {
-        let node = run[i];
-        weigh(node, hierarchy.level(node.key), threshold, left);
-    }
-}
-
-// The discounted count of the prefix of this level and own count, from the nodes after it.
+// The discounted count of a prefix, from its node and the nodes beneath it. Those are weighed the last first, and in
+// the end what is left at its level is what is left beneath it.
 fn discounted_count<K: Copy, H: Hierarchy<Key = K>>(
     hierarchy: &H,
-    after: &[Node<K>],
-    level: usize,
-    own: u64,
+    node: Node<K>,
+    run: &[Node<K>],
     threshold: Threshold,
-) -> u64
-    requires { level < 33 }
-{
+) -> u64 {
     let mut left = [0; LEVELS];
-    let end = run_end(hierarchy, after, level);
-    weigh_run(hierarchy, &after[0..end], threshold, &mut left);
-    own.saturating_add(left[level])
-}
-
-// The root's row, if it is listed.
-fn root_row<K: Copy, H: Hierarchy<Key = K>>(
-    hierarchy: &H,
-    stored: &[Node<K>],
-    root: Root,
-    threshold: Threshold,
-) -> Option<Row<K>>
-    ensures { IfSome result (λ row. row.lower ≤ row.upper) }
-{
-    let discounted = discounted_count(hierarchy, stored, 0, root.own, threshold);
-    if !threshold.is_met_by(discounted) {
-        return None;
+    for beneath in run.iter().rev() {
+        weigh(hierarchy, *beneath, threshold, &mut left);
     }
-    let (lower, upper) = root_bounds(hierarchy, stored, root);
-    Some(Row {
-        key: hierarchy.root(),
-        lower,
-        upper,
-        discounted,
-    })
+    node.own.saturating_add(left[hierarchy.level(node.key)])
 }
 
-// The row of a stored prefix, from its node and the nodes after it, if it is listed.
+// The row of a prefix, from its node and the nodes after it, if it is listed.
 fn node_row<K: Copy, H: Hierarchy<Key = K>>(
     hierarchy: &H,
     node: Node<K>,
     after: &[Node<K>],
     threshold: Threshold,
 ) -> Option<Row<K>>
-    ensures { IfSome result (λ row. row.lower ≤ row.upper) }
+    ensures { IfSome result (λ row. IsListed threshold.share threshold.total row.key row.discounted node) }
 {
-    let discounted = discounted_count(
-        hierarchy,
-        after,
-        hierarchy.level(node.key),
-        node.own,
-        threshold,
-    );
+    let run = run_beneath(hierarchy, node, after);
+    let discounted = discounted_count(hierarchy, node, run, threshold);
     if !threshold.is_met_by(discounted.saturating_add(node.slack)) {
         return None;
     }
-    let (lower, upper) = node_bounds(hierarchy, node, after);
+    let (lower, upper) = node_bounds(node, run);
     Some(Row {
         key: node.key,
         lower,
@@ -145,33 +117,31 @@ fn slot_after<K: Copy, H: OrderedHierarchy<Key = K>>(
     hierarchy: &H,
     stored: &[Node<K>],
     key: K,
-) -> usize {
-    let ancestry = climb(hierarchy, stored, key, 0);
-    match ancestry.nearest {
-        Some(at) if ancestry.missing == 0 => at + 1,
-        _ => ancestry.at,
-    }
+) -> usize
+    ensures within { result ≤ length stored.now }
+    ensures later { Sorted (names_of (H.Hierarchy.means hierarchy.now) stored.now) → All (λ n. name_before ((H.Hierarchy.means hierarchy.now).name_of key) (name_at (H.Hierarchy.means hierarchy.now) n) ≡ true) (drop result stored.now) }
+{
+    stored.partition_point(
+        |node: &Node<K>| -> bool
+            ensures { result ≡ not (name_before ((H.Hierarchy.means hierarchy.entry.now).name_of key) (name_at (H.Hierarchy.means hierarchy.entry.now) node.now)) }
+        { !hierarchy.before(key, node.key) },
+    )
 }
 
-// The row of the first listed prefix from a slot on.
+// The row of the first listed prefix among these nodes, behind which no others are stored.
 fn row_from<K: Copy, H: Hierarchy<Key = K>>(
     hierarchy: &H,
     stored: &[Node<K>],
-    from: usize,
     threshold: Threshold,
 ) -> Option<Row<K>>
-    ensures { IfSome result (λ row. row.lower ≤ row.upper) }
+    ensures { IfSome result (λ row. IsAnyListed threshold.share threshold.total row.key row.discounted stored.now) }
 {
-    for at in from..stored.len() {
-        let row = node_row(
-            hierarchy,
-            stored[at],
-            &stored[at + 1..stored.len()],
-            threshold,
-        );
-        if row.is_some() {
-            return row;
+    let mut rest = stored;
+    while let Some((node, after)) = rest.split_first() {
+        if let Some(row) = node_row(hierarchy, *node, after, threshold) {
+            return Some(row);
         }
+        rest = after;
     }
     None
 }
@@ -184,17 +154,18 @@ pub fn next_row<K: Copy, H: OrderedHierarchy<Key = K>>(
     after: Option<K>,
     threshold: Threshold,
 ) -> Option<Row<K>>
-    ensures { IfSome result (λ row. row.lower ≤ row.upper) }
+    ensures listed { IfSome result (λ row. IsAnyListed threshold.share threshold.total row.key row.discounted (root_node (H.Hierarchy.means hierarchy.now) root ∷ stored.now)) }
+    ensures later { Sorted (names_of (H.Hierarchy.means hierarchy.now) stored.now) → IfSome after (λ key. IfSome result (λ row. name_before ((H.Hierarchy.means hierarchy.now).name_of key) ((H.Hierarchy.means hierarchy.now).name_of row.key) ≡ true)) }
 {
-    let from = match after {
-        Some(key) => slot_after(hierarchy, stored, key),
-        None => {
-            let row = root_row(hierarchy, stored, root, threshold);
-            if row.is_some() {
-                return row;
-            }
-            0
+    match after {
+        Some(key) => {
+            let from = slot_after(hierarchy, stored, key);
+            row_from(hierarchy, &stored[from..], threshold)
         }
-    };
-    row_from(hierarchy, stored, from, threshold)
+        None => {
+            let node = root.as_node(hierarchy.root());
+            let row = node_row(hierarchy, node, stored, threshold);
+            row.or_else(|| row_from(hierarchy, stored, threshold))
+        }
+    }
 }

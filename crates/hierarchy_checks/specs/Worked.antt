@@ -1,14 +1,9 @@
 -- Names worked out by hand: the definitions compute to them.
-use Rattle.std.specs.Prelude.{◌≡◌, ℕ, ◌+◌, ◌*◌, true, false, List, [], ◌∷◌, codes}
+use Rattle.std.specs.Prelude.{◌≡◌, ℕ, true, false, List, [], ◌∷◌, codes}
 use Rattle.prefix.specs.Name.{Step, name_before}
-use Rattle.octets.specs.declared.AddressPrefix.{AddressPrefix}
-use Rattle.octets.specs.Octets.{is_prefix, octet_name, parent_prefix, prefix_text}
+use Rattle.octets.specs.Octets.{is_prefix, octet_name, parent_prefix, net, prefix_text}
 use Rattle.paths.specs.declared.Place.{Place}
 use Rattle.paths.specs.Hierarchy.{is_path, path_name, parent_place}
-
--- a.b.c.d/length
-abbrev net : ℕ → ℕ → ℕ → ℕ → ℕ → AddressPrefix
-net a b c d n = record { address = ((a * 256 + b) * 256 + c) * 256 + d; length = n }
 
 abbrev place : ℕ → ℕ → Place
 place offset n = record { offset = offset; length = n }

@@ -5,6 +5,7 @@ use octets::{AddressPrefix, Octets};
 use prefix::{Hierarchy, OrderedHierarchy, compare_names, lies_at_or_beneath};
 use std::test::Fail;
 
+// A key by its octets. A `From` may not join two types of other crates.
 fn prefix(octets: [u8; 4], length: u8) -> AddressPrefix {
     AddressPrefix {
         address: u32::from_be_bytes(octets),
@@ -26,7 +27,7 @@ const SHORTEST: [([u8; 4], u8); 9] = [
 ];
 
 fn is_whole(length: u8) -> bool {
-    length == 0 || length == 8 || length == 16 || length == 24 || length == 32
+    matches!(length, 0 | 8 | 16 | 24 | 32)
 }
 
 // The definitions name the prefixes that the rules are explained by as they are worked out by hand.

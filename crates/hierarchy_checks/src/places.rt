@@ -12,11 +12,7 @@ fn place(offset: usize, length: usize) -> Place {
 fn level_of(text: &[u8]) -> Option<usize> {
     let paths = Paths::new(text);
     let key = place(0, text.len());
-    if paths.is_valid(key) {
-        Some(paths.level(key))
-    } else {
-        None
-    }
+    paths.is_valid(key).then(|| paths.level(key))
 }
 
 // The definitions name the paths that the rules are explained by as they are worked out by hand.
@@ -61,9 +57,8 @@ fn empty_segments_are_refused(rt: HostRuntime) {
 #[test]
 fn every_byte_is_judged(rt: HostRuntime) {
     for byte in 0..=255u8 {
-        let plain = 0x21 <= byte && byte <= 0x7E && byte != b'/' && byte != b'?' && byte != b'#';
-        let expected = if plain { Some(1) } else { None };
-        assert_eq!(rt; level_of(&[b'/', b'a', byte]), expected);
+        let plain = (0x21..=0x7E).contains(&byte) && !b"/?#".contains(&byte);
+        assert_eq!(rt; level_of(&[b'/', b'a', byte]), plain.then_some(1));
     }
 }
 
@@ -130,14 +125,20 @@ fn parents_keep_their_offset(rt: HostRuntime) {
 #[test]
 fn steps_decide_the_order(rt: HostRuntime) {
     let paths = Paths::new(b"/a/b/a!/ab/ab~/b");
-    let ordered = [(9, 0), (0, 2), (0, 4), (4, 3), (7, 3), (10, 4), (14, 2)];
-    for (i, (one, one_length)) in ordered.iter().enumerate() {
-        for (j, (other, other_length)) in ordered.iter().enumerate() {
-            let key = place(*one, *one_length);
-            let next = place(*other, *other_length);
-            assert_eq!(rt; paths.before(key, next), i < j);
-            assert_eq!(rt; paths.same(key, next), i == j);
-            assert_eq!(rt; compare_names(&paths, key, next), i.cmp(&j));
+    let ordered = [
+        place(9, 0),
+        place(0, 2),
+        place(0, 4),
+        place(4, 3),
+        place(7, 3),
+        place(10, 4),
+        place(14, 2),
+    ];
+    for (i, one) in ordered.iter().enumerate() {
+        for (j, other) in ordered.iter().enumerate() {
+            assert_eq!(rt; paths.before(*one, *other), i < j);
+            assert_eq!(rt; paths.same(*one, *other), i == j);
+            assert_eq!(rt; compare_names(&paths, *one, *other), i.cmp(&j));
         }
     }
 }

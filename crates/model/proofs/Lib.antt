@@ -1,7 +1,11 @@
+pub mod Among
 pub mod Names
+pub mod Changes
 pub mod Nodes
 pub mod Counts
+pub mod Handing
 pub mod Folding
-pub mod AddingHelp
+pub mod Lineages
+pub mod Making
 pub mod Adding
 pub mod Calls

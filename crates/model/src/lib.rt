@@ -7,7 +7,7 @@ ghost use Rattle.std.specs.Prelude.{◌≡◌, ◌+◌, ◌-◌, ◌^◌, min, m
 
 // A stored prefix. The own count is the weight counted at the prefix itself; the slack bounds what was counted at or
 // beneath it and is not in the table; the ceiling bounds what was counted beneath it at any prefix that is not stored.
-#[derive(Clone, Copy)]
+#[derive(Clone, Copy, Debug, PartialEq, Eq)]
 pub struct Node<K> {
     pub key: K,
     pub own: u64,
@@ -33,23 +33,34 @@ impl<K: Copy> Node<K> {
         ensures { result ≡ record { key = self.key; own = min (self.own + own) (2 ^ 64 - 1); slack = self.slack; ceiling = max self.ceiling load } }
     {
         Node {
-            key: self.key,
             own: self.own.saturating_add(own),
-            slack: self.slack,
             ceiling: self.ceiling.max(load),
+            ..self
         }
     }
 }
 
 // The figures of the root, which takes no slot and whose slack is 0.
-#[derive(Clone, Copy)]
+#[derive(Clone, Copy, Debug, PartialEq, Eq)]
 pub struct Root {
     pub own: u64,
     pub ceiling: u64,
 }
 
 impl Root {
-    // The root after it took over an own count, with a ceiling that is at least the load.
+    // The root as a node, with the root's key: it counts like one, and its slack is 0.
+    pub fn as_node<K: Copy>(self, key: K) -> Node<K>
+        ensures { result ≡ record { key = key; own = self.own; slack = 0; ceiling = self.ceiling } }
+    {
+        Node {
+            own: self.own,
+            ceiling: self.ceiling,
+            ..Node::vacant(key)
+        }
+    }
+
+    // The root after it took over an own count, with a ceiling that is at least the load. A node has more fields to keep, so
+    // a trait for both would hold two bodies all the same.
     pub fn taking(self, own: u64, load: u64) -> Root
         ensures { result ≡ record { own = min (self.own + own) (2 ^ 64 - 1); ceiling = max self.ceiling load } }
     {

@@ -1,6 +1,5 @@
 -- Two valid keys come in the order of their addresses, and have one name only where they are equal.
-use Rattle.std.proofs.Common.{◌≡◌, ℕ, zero, suc, ◌+◌, ◌-◌, ◌*◌, ◌%◌, ◌^◌, ◌<◌, ◌≤◌, Bool, true, false, ◌&&◌, ◌||◌, eqb, ltb, take, Decides, sym, refl, ap, ◌∙◌, subst, ⊎_elim, mod-eq_of_lt, add-mul, one-mul, arith}
-use Rattle.std.proofs.lemmas.Bool.{and_parts, and_from, cases_order, eqb-true, eq-eqb, ne_eqb, lt-ltb, le-ltb}
+use Rattle.std.proofs.Common.{◌≡◌, ℕ, zero, suc, ◌+◌, ◌-◌, ◌*◌, ◌%◌, ◌^◌, ◌<◌, ◌≤◌, Bool, true, false, ◌&&◌, ◌||◌, eqb, ltb, take, Decides, sym, refl, ap, ◌∙◌, mod-eq_of_lt, add-mul, one-mul, arith}
 use Rattle.std.proofs.lemmas.Bool.Decides.{nat_tests, same_from_decides}
 use Rattle.std.proofs.lemmas.Nat.{pow_pos, mod-pow-add, mod_below, mul-le}
 use Rattle.prefix.specs.Name.{Name, same_name, name_before}
@@ -25,18 +24,7 @@ lower_row m x y a b h ha = omega (arith, mul-le (suc x) m y m h (omega arith), a
 octet_first : (m x y a b p q : ℕ) (rest : Bool) → a < m → b < m → rest ≡ number_before a p b q → ((ltb x y || (eqb x y && false)) || ((eqb x y && true) && rest)) ≡ number_before (x * m + a) (suc p) (y * m + b) (suc q)
 unfolding number_before
 octet_first m x y a b p q rest ha hb e =
-    ⊎_elim
-    (λ h.
-    subst (λ z. ((ltb x z || (eqb x z && false)) || ((eqb x z && true) && rest)) ≡ number_before (x * m + a) (suc p) (z * m + b) (suc q)) h
-    (rw ((le-ltb x x (omega arith)), (eq-eqb x x refl)) (e ∙ sym (after_same (x * m) a b p q))))
-    (λ g.
-    ⊎_elim
-    (λ h. rw ((lt-ltb x y h), (lt-ltb (x * m + a) (y * m + b) (lower_row m x y a b h ha))))
-    (λ h.
-    let more = lower_row m y x b a h hb in
-    rw ((le-ltb x y (omega arith)), (ne_eqb x y (λ z. omega arith)), (le-ltb (x * m + a) (y * m + b) (omega arith)), (ne_eqb (x * m + a) (y * m + b) (λ z. omega arith))))
-    g)
-    (cases_order x y)
+    grind (arith, nat_tests, lower_row m x y a b, lower_row m y x b a)
 
 -- no octets come before some
 none_first : (b q : ℕ) → number_before 0 0 b (suc q) ≡ true
@@ -64,21 +52,17 @@ octets_order w a b zero zero hp hq ea eb =
     rw (za, zb)
 octets_order zero a b zero (suc q) hp hq ea eb = absurd (omega arith)
 octets_order (suc w) a b zero (suc q) hp hq ea eb =
-    let za = zeros_at a (8 * suc w) (8 * (suc w - 0)) (omega arith) ea in
-    sym (none_first (b % 2 ^ (8 * suc w)) q) ∙ ap (λ n. number_before n 0 (b % 2 ^ (8 * suc w)) (suc q)) (sym za)
+    rw (zeros_at a (8 * suc w) (8 * (suc w - 0)) (omega arith) ea) (sym (none_first (b % 2 ^ (8 * suc w)) q))
 octets_order zero a b (suc p) q hp hq ea eb = absurd (omega arith)
 octets_order (suc w) a b (suc p) zero hp hq ea eb =
-    let zb = zeros_at b (8 * suc w) (8 * (suc w - 0)) (omega arith) eb in
-    sym (none_last (a % 2 ^ (8 * suc w)) p) ∙ ap (λ n. number_before (a % 2 ^ (8 * suc w)) (suc p) n 0) (sym zb)
+    rw (zeros_at b (8 * suc w) (8 * (suc w - 0)) (omega arith) eb) (sym (none_last (a % 2 ^ (8 * suc w)) p))
 octets_order (suc w) a b (suc p) (suc q) hp hq ea eb =
     let m = 2 ^ (8 * w) in
     let za = zeros_at a (8 * (w - p)) (8 * (suc w - suc p)) (omega arith) ea in
     let zb = zeros_at b (8 * (w - q)) (8 * (suc w - suc q)) (omega arith) eb in
     let rest = octets_order w a b p q (omega arith) (omega arith) za zb in
-    octet_first m (octet_at a w) (octet_at b w) (a % m) (b % m) p q (name_before (take p (octets_of w a)) (take q (octets_of w b)))
-    (mod_below a m (pow_pos (8 * w))) (mod_below b m (pow_pos (8 * w))) rest
-    ∙ ap (λ n. number_before n (suc p) (octet_at b w * m + b % m) (suc q)) (sym (first_octet w a))
-    ∙ ap (λ n. number_before (a % 2 ^ (8 * suc w)) (suc p) n (suc q)) (sym (first_octet w b))
+    let first = octet_first m (octet_at a w) (octet_at b w) (a % m) (b % m) p q _ (mod_below a m (pow_pos (8 * w))) (mod_below b m (pow_pos (8 * w))) rest in
+    rw (first_octet w a, first_octet w b) first
 
 -- Valid keys
 
@@ -98,12 +82,8 @@ prefix_order k l r small low e valid other =
     let zeros = zeros_at k.address (8 * (4 - p.count)) (32 - k.length) (omega (arith, p.is)) h.1 in
     let nones = zeros_at l.address (8 * (4 - q.count)) (32 - l.length) (omega (arith, q.is)) g.1 in
     let ordered = octets_order 4 k.address l.address p.count q.count p.few q.few zeros nones in
-    e ∙ sym (in_octets k.address l.address p.count q.count k.length l.length p.is q.is)
-    ∙ ap (λ n. number_before n p.count l.address q.count) (sym (mod-eq_of_lt small))
-    ∙ ap (λ n. number_before (k.address % 2 ^ 32) p.count n q.count) (sym (mod-eq_of_lt low))
-    ∙ sym ordered
-    ∙ ap (λ (x : Name). name_before x (take q.count (octets_of 4 l.address))) (sym name)
-    ∙ ap (name_before (octet_name k)) (sym last)
+    let octets = in_octets k.address l.address p.count q.count k.length l.length p.is q.is in
+    cc (mod-eq_of_lt small, mod-eq_of_lt low)
 
 -- neither comes before the other
 level_numbers : (a b m n : ℕ) → number_before a m b n ≡ false → number_before b n a m ≡ false → (a ≡ b) × (m ≡ n)
@@ -122,20 +102,13 @@ named_apart k l small low valid other e =
     let both = level_numbers k.address l.address k.length l.length one two in
     equal_keys k.address l.address k.length l.length both.0 both.1
 
-pub same_prefix : (k l : AddressPrefix) (r : Bool) → k.address < 2 ^ 32 → l.address < 2 ^ 32 → Decides r (k ≡ l) → is_prefix k ≡ true → is_prefix l ≡ true → r ≡ same_name (octet_name k) (octet_name l)
+-- what `==` on keys tells
+equals_decides : (k l : AddressPrefix) (r : Bool) → r ≡ (eqb k.address l.address && eqb k.length l.length) → Decides r (k ≡ l)
+equals_decides k l r e = grind (arith, nat_tests)
+
+pub same_prefix : (k l : AddressPrefix) (r : Bool) → k.address < 2 ^ 32 → l.address < 2 ^ 32 → r ≡ (eqb k.address l.address && eqb k.length l.length) → is_prefix k ≡ true → is_prefix l ≡ true → r ≡ same_name (octet_name k) (octet_name l)
 same_prefix k l r small low h valid other =
-    same_from_decides r (same_name (octet_name k) (octet_name l)) h (
+    same_from_decides r (same_name (octet_name k) (octet_name l)) (equals_decides k l r h) (
       (λ s. named_apart k l small low valid other ((name_order.same_is_equal (octet_name k) (octet_name l)).0 s)),
       (λ s. (name_order.same_is_equal (octet_name k) (octet_name l)).1 (ap octet_name s)),
-    )
-
--- what `==` on keys tells
-pub equals_decides : (k l : AddressPrefix) (r : Bool) → r ≡ (eqb k.address l.address && eqb k.length l.length) → Decides r (k ≡ l)
-equals_decides k l r e =
-    let a = eqb k.address l.address in
-    let n = eqb k.length l.length in (
-      (λ t.
-          let h = and_parts a n (sym e ∙ t) in
-          equal_keys k.address l.address k.length l.length (eqb-true k.address l.address h.0) (eqb-true k.length l.length h.1)),
-      (λ s. e ∙ and_from a n (eq-eqb k.address l.address (ap (λ x. x.address) s)) (eq-eqb k.length l.length (ap (λ x. x.length) s))),
     )

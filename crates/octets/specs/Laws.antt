@@ -1,8 +1,8 @@
 -- What the laws of the octet hierarchy rest on.
 use Rattle.std.specs.Prelude.{◌≡◌, ℕ, zero, suc, ◌+◌, ◌-◌, ◌*◌, ◌/◌, ◌%◌, ◌^◌, ◌≤◌, true, false, ◌&&◌, ◌||◌, [], length, take, ◌==◌, nat_lt, refl}
-use Rattle.std.proofs.Common.{sym, ap, subst, ◌∙◌, ⊎_elim, length-take, arith}
+use Rattle.std.proofs.Common.{sym, ap, ◌∙◌, ⊎_elim, length-take, arith}
 use Rattle.std.proofs.Math.Nat.{mul-mod_left}
-use Rattle.std.proofs.lemmas.Bool.{and_parts, and_from, and_cases, or_cases, cases_Bool, eqb-true, eq-eqb, ltb-true, ltb-false, cond-true, cond-false}
+use Rattle.std.proofs.lemmas.Bool.{and_parts, and_from, and_cases, or_cases, cases_Bool, eqb-true, eq-eqb, ltb-true, ltb-false, cond-false}
 use Rattle.std.proofs.lemmas.List.{take-take}
 use Rattle.std.proofs.lemmas.Nat.{shl-shr, shr-shr, shr_split}
 use Rattle.prefix.specs.Name.{parent_name}
@@ -47,14 +47,12 @@ cleared_is a m = omega (arith, shr_split a m)
 
 cleared_shift : (a m e : ℕ) → (a - a % 2 ^ m) / 2 ^ (m + e) ≡ a / 2 ^ (m + e)
 cleared_shift a m e =
-    sym (shr-shr (a - a % 2 ^ m) m e) ∙ ap (λ x. x / 2 ^ m / 2 ^ e) (cleared_is a m) ∙ ap (λ x. x / 2 ^ e) (shl-shr (a / 2 ^ m) m) ∙ shr-shr a m e
+    rw (← shr-shr (a - a % 2 ^ m) m e, ← shr-shr a m e, cleared_is a m, shl-shr (a / 2 ^ m) m)
 
 cleared_octet : (a m after : ℕ) → m ≤ 8 * after → octet_at (a - a % 2 ^ m) after ≡ octet_at a after
 cleared_octet a m after h =
     let e : m + (8 * after - m) ≡ 8 * after = omega arith in
-    let shift : (a - a % 2 ^ m) / 2 ^ (8 * after) ≡ a / 2 ^ (8 * after) =
-    subst (λ n. (a - a % 2 ^ m) / 2 ^ n ≡ a / 2 ^ n) e (cleared_shift a m (8 * after - m)) in
-    ap (λ x. x % 256) shift
+    ap (λ x. x % 256) (rw e at (cleared_shift a m (8 * after - m)))
 
 pub cleared_octets : (count after a m : ℕ) → m + 8 * count ≤ 8 * after → take count (octets_of after (a - a % 2 ^ m)) ≡ take count (octets_of after a)
 cleared_octets zero after a m h = refl
@@ -79,9 +77,7 @@ valid_parts k e =
 
 -- a valid key of so many octets
 pub valid_named : (k : AddressPrefix) (c : ℕ) → is_prefix k ≡ true → k.length ≡ 8 * c → octet_name k ≡ take c (octets_of 4 k.address)
-valid_named k c e h =
-    let count : k.length / 8 ≡ c = omega arith in
-    cond-true (is_prefix k) (take (k.length / 8) (octets_of 4 k.address)) [] e ∙ ap (λ n. take n (octets_of 4 k.address)) count
+valid_named k c e h = rw e (ap (λ n. take n (octets_of 4 k.address)) (omega arith))
 
 pub valid_level : (k : AddressPrefix) → is_prefix k ≡ true → length (octet_name k) ≡ k.length / 8
 valid_level k e =
@@ -119,12 +115,10 @@ drops : (k : AddressPrefix) → is_prefix k ≡ true → nat_lt 0 k.length ≡ t
 drops k e p =
     let w = whole k.length (valid_parts k e).0 in
     let some = ltb-true 0 k.length p in
-    let one : suc (w.count - 1) ≡ w.count = omega (arith, w.is) in
     record { count = w.count - 1; few = omega (arith, w.few); is = omega (arith, w.is); less = omega (arith, w.is) }
 
 parent_is_at : (k : AddressPrefix) → is_prefix k ≡ true → nat_lt 0 k.length ≡ true → parent_prefix k ≡ prefix_at k.address (k.length - 8)
-parent_is_at k e p =
-    cond-true (is_prefix k && nat_lt 0 k.length) (prefix_at k.address (k.length - 8)) k (and_from (is_prefix k) (nat_lt 0 k.length) e p)
+parent_is_at k e p = rw (e, p)
 
 parent_is_itself : (k : AddressPrefix) → (is_prefix k && nat_lt 0 k.length) ≡ false → parent_prefix k ≡ k
 parent_is_itself k e = cond-false (is_prefix k && nat_lt 0 k.length) (prefix_at k.address (k.length - 8)) k e
@@ -143,12 +137,7 @@ nameless : (k : AddressPrefix) → (is_prefix k && nat_lt 0 k.length) ≡ false 
 nameless k h =
     ⊎_elim
     (λ e. not_valid_nameless k e)
-    (λ p.
-    let none : k.length / 8 ≡ 0 = omega (arith, ltb-false 0 k.length p) in
-    ⊎_elim
-    (λ e. cond-true (is_prefix k) (take (k.length / 8) (octets_of 4 k.address)) [] e ∙ ap (λ n. take n (octets_of 4 k.address)) none)
-    (λ e. not_valid_nameless k e)
-    (cases_Bool (is_prefix k)))
+    (λ p. ⊎_elim (λ e. valid_named k 0 e (omega (arith, ltb-false 0 k.length p))) (not_valid_nameless k) (cases_Bool (is_prefix k)))
     (and_cases (is_prefix k) (nat_lt 0 k.length) h)
 
 pub parent_named : (k : AddressPrefix) → octet_name (parent_prefix k) ≡ parent_name (octet_name k)

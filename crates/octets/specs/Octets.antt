@@ -1,5 +1,5 @@
 -- Address prefixes by whole octets: which keys are valid, what they are called, and how they are written.
-use Rattle.std.specs.Prelude.{ℕ, zero, suc, ◌-◌, ◌*◌, ◌/◌, ◌%◌, ◌^◌, Bool, cond, ◌&&◌, ◌||◌, List, [], ◌∷◌, ◌++◌, take, codes, decimal, ◌==◌, nat_lt}
+use Rattle.std.specs.Prelude.{ℕ, zero, suc, ◌+◌, ◌-◌, ◌*◌, ◌/◌, ◌%◌, ◌^◌, Bool, cond, ◌&&◌, ◌||◌, List, [], ◌∷◌, ◌++◌, take, codes, decimal, ◌==◌, nat_lt}
 use Rattle.prefix.specs.Name.{Name}
 use Rattle.octets.specs.declared.AddressPrefix.{AddressPrefix}
 
@@ -44,6 +44,10 @@ parent_prefix k = cond (is_prefix k && nat_lt 0 k.length) (prefix_at k.address (
 
 abbrev pub host_prefix : ℕ → AddressPrefix
 host_prefix address = record { address = address; length = 32 }
+
+-- a.b.c.d/n, as keys are written
+abbrev pub net : ℕ → ℕ → ℕ → ℕ → ℕ → AddressPrefix
+net a b c d n = record { address = ((a * 256 + b) * 256 + c) * 256 + d; length = n }
 
 -- the four octets of the address in decimal with dots between, '/', and the length in decimal
 abbrev pub prefix_text : AddressPrefix → List ℕ

@@ -5,13 +5,11 @@
 
 ghost use Rattle.std.specs.Prelude.{◌≡◌, ◌-◌, ◌^◌, true, ◌&&◌, length, if◌then◌else◌, Some, None, nat_lt};
 ghost use Rattle.prefix.specs.Name.{same_name, name_before};
-ghost use Rattle.octets.specs.Octets.{is_length, is_prefix, octet_name, address_before, root_prefix, prefix_at, parent_prefix, prefix_text};
+ghost use Rattle.octets.specs.Octets.{is_length, is_prefix, octets_of, octet_name, root_prefix, host_prefix, prefix_at, parent_prefix, prefix_text};
 ghost use Rattle.octets.specs.Meaning.{octet_meaning};
 
 use prefix::{Hierarchy, OrderedHierarchy};
 use std::fmt;
-
-mod hosts;
 
 // The most octets of an address.
 pub const OCTET_DEPTH: usize = 4;
@@ -19,14 +17,16 @@ pub const OCTET_DEPTH: usize = 4;
 // The bits of an octet.
 const OCTET_BITS: u8 = 8;
 
-// The first `length` bits of an address. A valid key has none set after them.
-#[derive(Clone, Copy, Debug, PartialEq, Eq)]
+// The first `length` bits of an address. A valid key has none set after them. The order is by address, and the shorter
+// first at one address.
+#[derive(Clone, Copy, Debug, PartialEq, Eq, PartialOrd, Ord)]
 pub struct AddressPrefix {
     pub address: u32,
     pub length: u8,
 }
 
-// The address bits after a length; none where no key has that length.
+// The address bits after a length; none where no key has that length. One case for each, so that every mask can be read
+// off and tried by itself.
 fn bits_after(length: u8) -> Option<u32>
     ensures { result ≡ (if is_length length then Some (2 ^ (32 - length) - 1) else None) }
 {
@@ -40,22 +40,18 @@ fn bits_after(length: u8) -> Option<u32>
     }
 }
 
-// By address, and the shorter first at one address.
-fn is_lower(one: AddressPrefix, other: AddressPrefix) -> bool
-    ensures { result ≡ address_before one other }
-{
-    one.address < other.address || one.address == other.address && one.length < other.length
-}
-
 // Whether one valid key comes before another. Their bits after the length are zero, so the order of addresses is that of
 // octets, and where one key's octets end the other's go on or are zero.
+#[tactic(auto, using(crate::proofs::Order::prefix_order))]
 fn comes_before(one: AddressPrefix, other: AddressPrefix) -> bool
     ensures { is_prefix one ≡ true → is_prefix other ≡ true → result ≡ name_before (octet_name one) (octet_name other) }
 {
-    is_lower(one, other)
+    one < other
 }
 
-// Whether two valid keys have one name: they are equal then.
+// Whether two valid keys have one name: they are equal then. Addresses compare as numbers and paths byte by byte, so the two
+// hierarchies share no comparison but the derived one.
+#[tactic(auto, using(crate::proofs::Order::same_prefix))]
 fn same_octets(one: AddressPrefix, other: AddressPrefix) -> bool
     ensures { is_prefix one ≡ true → is_prefix other ≡ true → result ≡ same_name (octet_name one) (octet_name other) }
 {
@@ -67,15 +63,25 @@ fn same_octets(one: AddressPrefix, other: AddressPrefix) -> bool
 pub struct Octets;
 
 impl Octets {
+    // The key of a host's address, which a reader of addresses asks for. What the hierarchy means is pinned here too, since
+    // a caller of the trait's questions learns no more than what they say of `means`.
+    pub fn host(&self, address: u32) -> AddressPrefix
+        ensures value { result ≡ host_prefix address }
+        ensures valid { is_prefix result ≡ true }
+        ensures named { octet_name result ≡ octets_of 4 address }
+        ensures meaning { ⟦<Octets as Hierarchy>⟧.means self.now ≡ octet_meaning }
+    {
+        AddressPrefix {
+            address,
+            length: 32,
+        }
+    }
+
     // The length of the parent; none for the root and for a key that is not valid.
     fn length_above(&self, key: AddressPrefix) -> Option<u8>
         ensures { result ≡ (if is_prefix key && nat_lt 0 key.length then Some (key.length - 8) else None) }
     {
-        if self.is_valid(key) && key.length > 0 {
-            Some(key.length.saturating_sub(OCTET_BITS))
-        } else {
-            None
-        }
+        (self.is_valid(key) && key.length > 0).then(|| key.length.saturating_sub(OCTET_BITS))
     }
 
     // The key with one octet less, and the bits after it cleared; none for the root and for a key that is not valid.
@@ -89,18 +95,10 @@ impl Octets {
             length,
         })
     }
-
-    // The valid key that has the key's name.
-    fn named(&self, key: AddressPrefix) -> AddressPrefix
-        ensures sound { is_prefix result ≡ true }
-        ensures named { octet_name result ≡ octet_name key }
-    {
-        if self.is_valid(key) { key } else { self.root() }
-    }
 }
 
 // Each answer is said here by the name of the key itself, and not only by what `means` calls its name: a hierarchy whose
-// keys all mean the root would meet the trait's contracts. That `means` gives these very names is said in `hosts`.
+// keys all mean the root would meet the trait's contracts. That `means` gives these very names is said in `host`.
 impl Hierarchy for Octets {
     type Key = AddressPrefix;
 
@@ -123,13 +121,11 @@ impl Hierarchy for Octets {
         }
     }
 
+    #[tactic(auto, using(crate::proofs::Masks::masked_valid))]
     fn is_valid(&self, key: AddressPrefix) -> bool
         ensures { result ≡ is_prefix key }
     {
-        match bits_after(key.length) {
-            Some(bits) => key.address & bits == 0,
-            None => false,
-        }
+        bits_after(key.length).is_some_and(|bits| key.address & bits == 0)
     }
 
     fn level(&self, key: AddressPrefix) -> usize

@@ -3,43 +3,33 @@
 // end without one. Each title is printed, and below it what the path program would print.
 #![tactic(auto)]
 
-ghost use Rattle.std.specs.Prelude.{◌≤◌, length};
+ghost use Rattle.std.specs.Prelude.{◌<◌, length};
 
-use fields::index_of;
+use fields::split_at_byte;
 use report::path_report;
 use std::io::Read;
 
 const CASE_END: &[u8] = b"\n====\n";
 
-// Where the first case ends.
-fn case_end(cases: &[u8]) -> usize
-    ensures { result ≤ length cases.now }
+// The first case, and what stands behind its end.
+fn split_case(cases: &[u8]) -> (&[u8], &[u8])
+    ensures { 0 < length cases.now → length result.1.now < length cases.now }
 {
-    for i in 0..cases.len() {
-        if cases[i..cases.len()].starts_with(CASE_END) {
-            return i;
-        }
-    }
-    cases.len()
-}
-
-// What stands behind the first so many bytes.
-fn behind(bytes: &[u8], count: usize) -> &[u8] {
-    if count < bytes.len() {
-        &bytes[count..bytes.len()]
-    } else {
-        &[]
+    match cases
+        .windows(CASE_END.len())
+        .position(|part| part == CASE_END)
+    {
+        Some(end) => (&cases[..end], &cases[end + CASE_END.len()..]),
+        None => (cases, &[]),
     }
 }
 
 fn print_case(rt: &HostRuntime, case: &[u8]) -> anyhow::Result<()> {
-    let title = index_of(case, b'\n');
+    let (title, input) = split_at_byte(case, b'\n').unwrap_or((case, &[]));
     let mut line = String::new(rt.alloc());
-    for byte in &case[0..title] {
-        line.push(char::from(*byte))?;
-    }
+    line.extend(title.iter().map(|byte| char::from(*byte)))?;
     println!(rt; "{line}")?;
-    let text = path_report(rt.alloc(), behind(case, title + 1))?;
+    let text = path_report(rt.alloc(), input)?;
     print!(rt; "{text}")?;
     Ok(())
 }
@@ -48,13 +38,10 @@ fn run(rt: &HostRuntime) -> anyhow::Result<()> {
     let mut cases = Vec::new(rt.alloc());
     rt.stdin().read_to_end(&mut cases)?;
     let mut rest = cases.as_slice();
-    for _ in 0..cases.len() {
-        if rest.is_empty() {
-            break;
-        }
-        let end = case_end(rest);
-        print_case(rt, &rest[0..end])?;
-        rest = behind(rest, end.saturating_add(CASE_END.len()));
+    while !rest.is_empty() {
+        let (case, behind) = split_case(rest);
+        print_case(rt, case)?;
+        rest = behind;
     }
     Ok(())
 }

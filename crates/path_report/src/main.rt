@@ -7,8 +7,9 @@ use std::io::Read;
 fn run(rt: &HostRuntime) -> anyhow::Result<()> {
     let mut input = Vec::new(rt.alloc());
     // one byte more, to see whether there is more
-    let mut limited = rt.stdin().take(INPUT_LIMIT as u64 + 1);
-    limited.read_to_end(&mut input)?;
+    rt.stdin()
+        .take(INPUT_LIMIT as u64 + 1)
+        .read_to_end(&mut input)?;
     let reported = within_limit(input.as_slice());
     if reported.len() < input.len() {
         eprintln!(rt;

@@ -3,7 +3,7 @@
 ghost use Rattle.std.specs.Prelude.{◌<◌, ◌≤◌, length, MatchResult};
 ghost use Rattle.pathlog.specs.Lines.{LineAt, refuses_line, refuses_path};
 
-use fields::{index_of, read_weight};
+use fields::{read_weight, split_at_byte};
 use paths::{ByteClass, PATH_DEPTH, Place, class_of};
 use refusal::Refusal;
 
@@ -20,70 +20,45 @@ pub struct Line {
 
 // Whether a byte stands in the path that may stand in none.
 fn has_outside_byte(path: &[u8]) -> bool {
-    for byte in path {
-        if class_of(*byte) == ByteClass::Outside {
-            return true;
-        }
-    }
-    false
+    path.iter()
+        .any(|byte| class_of(*byte) == ByteClass::Outside)
 }
 
-// How many bytes stand before the first '?' or '#'.
-fn key_part_length(path: &[u8]) -> usize
-    ensures { result ≤ length path.now }
+// What stands before the first '?' or '#', without one '/' at its end.
+fn key_part(path: &[u8]) -> &[u8]
+    ensures { length result.now ≤ length path.now }
 {
-    for (i, byte) in path.iter().enumerate() {
-        if class_of(*byte) == ByteClass::KeyEnd {
-            return i;
-        }
-    }
-    path.len()
-}
-
-// The key part without one '/' at its end.
-fn without_last_slash(part: &[u8]) -> &[u8]
-    ensures { length result.now ≤ length part.now }
-{
-    match part {
-        [front @ .., b'/'] => front,
-        _ => part,
-    }
+    let end = path
+        .iter()
+        .position(|byte| class_of(*byte) == ByteClass::KeyEnd)
+        .unwrap_or(path.len());
+    let part = &path[..end];
+    part.strip_suffix(b"/").unwrap_or(part)
 }
 
 // Whether a '/' is followed by another or by nothing.
 fn has_empty_segment(key: &[u8]) -> bool {
-    let mut empty = false;
-    for byte in key {
-        let slash = *byte == b'/';
-        if slash && empty {
-            return true;
-        }
-        empty = slash;
-    }
-    empty
+    key.split(|byte| *byte == b'/')
+        .skip(1)
+        .any(|segment| segment.is_empty())
 }
 
-// How many bytes the first eight segments have.
+// How many bytes the first eight segments have: the ninth starts at the ninth '/'.
 fn cut_length(key: &[u8]) -> usize
     ensures { result ≤ length key.now }
 {
-    let mut segments: usize = 0;
-    for (i, byte) in key.iter().enumerate() {
-        if *byte == b'/' {
-            if segments == PATH_DEPTH {
-                return i;
-            }
-            segments += 1;
-        }
-    }
-    key.len()
+    key.iter()
+        .enumerate()
+        .filter(|(_, byte)| **byte == b'/')
+        .nth(PATH_DEPTH)
+        .map_or(key.len(), |(at, _)| at)
 }
 
 // How many bytes of a logged path are its key.
 fn key_length(path: &[u8]) -> Result<usize, Refusal>
     ensures { MatchResult result (λ n. n ≤ length path.now) (λ e. refuses_path e) }
 {
-    if path.is_empty() || path[0] != b'/' {
+    if !path.starts_with(b"/") {
         return Err(Refusal::NoLeadingSlash);
     }
     if path.len() > LONGEST_PATH {
@@ -92,20 +67,20 @@ fn key_length(path: &[u8]) -> Result<usize, Refusal>
     if has_outside_byte(path) {
         return Err(Refusal::PathByte);
     }
-    let part = key_part_length(path);
-    let key = without_last_slash(&path[0..part]);
+    let key = key_part(path);
     if has_empty_segment(key) {
         return Err(Refusal::EmptySegment);
     }
     Ok(cut_length(key))
 }
 
-// The weight behind the space that ends the path.
-fn weight_after(line: &[u8], path_length: usize) -> Option<u32> {
-    if path_length < line.len() {
-        read_weight(&line[path_length + 1..line.len()])
-    } else {
-        None
+// The path of a line and the weight behind the space that ends it; none where no weight in form stands there.
+fn path_and_weight(line: &[u8]) -> (&[u8], Option<u32>)
+    ensures { length result.0.now ≤ length line.now }
+{
+    match split_at_byte(line, b' ') {
+        Some((path, digits)) => (path, read_weight(digits)),
+        None => (line, None),
     }
 }
 
@@ -113,23 +88,14 @@ fn weight_after(line: &[u8], path_length: usize) -> Option<u32> {
 pub fn read_line(text: &[u8], offset: usize) -> Result<Line, Refusal>
     ensures { MatchResult result (λ line. LineAt text.now offset line) (λ e. refuses_line e) }
 {
-    if offset >= text.len() {
-        return Err(Refusal::NoLineFeed);
-    }
-    let rest = &text[offset..text.len()];
-    let line_length = index_of(rest, b'\n');
-    if line_length == rest.len() {
-        return Err(Refusal::NoLineFeed);
-    }
-    let line = &rest[0..line_length];
-    let path_length = index_of(line, b' ');
-    let length = key_length(&line[0..path_length])?;
-    let Some(weight) = weight_after(line, path_length) else {
-        return Err(Refusal::WeightMalformed);
-    };
+    let rest = text.get(offset..).ok_or(Refusal::NoLineFeed)?;
+    let (line, _) = split_at_byte(rest, b'\n').ok_or(Refusal::NoLineFeed)?;
+    let (path, weight) = path_and_weight(line);
+    let length = key_length(path)?;
+    let weight = weight.ok_or(Refusal::WeightMalformed)?;
     Ok(Line {
         key: Place { offset, length },
         weight,
-        next: offset + line_length + 1,
+        next: offset + line.len() + 1,
     })
 }

@@ -1,19 +1,16 @@
--- The order by rank is the order by steps.
-use Rattle.std.proofs.Common.{◌≡◌, ℕ, ◌+◌, ltb, ◌⊎◌, List, [], ◌∷◌, length, sym, refl, ap, ◌∙◌, ⊎_elim, arith}
-use Rattle.std.proofs.lemmas.Bool.{lt-ltb, le-ltb, cases_lt}
-use Rattle.paths.specs.Path.{ranked_before}
+-- The order of ranks is the order by rank.
+use Rattle.std.proofs.Common.{◌≡◌, ℕ, Bool, ◌&&◌, ◌||◌, eqb, ltb, List, [], ◌∷◌, map, refl, arith}
+use Rattle.std.specs.Ordering.{nat_cmp, is_lt, ordering_then}
+use Rattle.std.specs.Cmp.Lexicographic.{slice_cmp}
+use Rattle.std.proofs.lemmas.Bool.Decides.{nat_tests}
+use Rattle.std.specs.declared.cmp.Ordering.{Ordering}
+use Rattle.paths.specs.Path.{rank_of, ranked_before}
 
--- where one of the two has ended
-ended : (p q : List ℕ) → (p ≡ []) ⊎ (q ≡ []) → ranked_before p q ≡ ltb (length p) (length q)
-ended [] [] e = refl
-ended [] (b ∷ q) e = sym (lt-ltb 0 (length (b ∷ q)) (omega arith))
-ended (a ∷ p) [] e = sym (le-ltb (length (a ∷ p)) 0 (omega arith))
-ended (a ∷ p) (b ∷ q) e = ⊎_elim (λ h. absurd (omega (arith, ap length h))) (λ h. absurd (omega (arith, ap length h))) e
+first_decides : (x y : ℕ) (o : Ordering) (r : Bool) → is_lt o ≡ r → is_lt (ordering_then (nat_cmp x y) o) ≡ (ltb x y || (eqb x y && r))
+first_decides x y o r e = grind (arith, nat_tests)
 
-pub ended_level : (p q one other : List ℕ) → (p ≡ []) ⊎ (q ≡ []) → length one + length q ≡ length other + length p → ranked_before p q ≡ ranked_before one other → ltb (length one) (length other) ≡ ranked_before one other
-ended_level p q one other e level same =
-    ⊎_elim
-    (λ h. lt-ltb (length one) (length other) h ∙ sym (lt-ltb (length p) (length q) (omega arith)))
-    (λ h. le-ltb (length one) (length other) h ∙ sym (le-ltb (length p) (length q) (omega arith)))
-    (cases_lt (length one) (length other))
-    ∙ sym (ended p q e) ∙ same
+pub ranked_by_cmp : (p q : List ℕ) → is_lt (slice_cmp nat_cmp (map rank_of p) (map rank_of q)) ≡ ranked_before p q
+ranked_by_cmp [] [] = refl
+ranked_by_cmp [] (b ∷ q) = refl
+ranked_by_cmp (a ∷ p) [] = refl
+ranked_by_cmp (a ∷ p) (b ∷ q) = first_decides (rank_of a) (rank_of b) _ _ (ranked_by_cmp p q)

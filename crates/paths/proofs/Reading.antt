@@ -1,164 +1,101 @@
--- What the loops from the end of a part to its front keep.
-use Rattle.std.proofs.Common.{◌≡◌, ℕ, zero, suc, ◌+◌, ◌-◌, ◌<◌, ◌≤◌, Bool, true, false, cond, not, ◌&&◌, ◌||◌, eqb, leb, List, [], ◌∷◌, length, get_or, drop, Some, None, sym, refl, ap, ◌∙◌, subst, ⊎_elim, arith, length-drop}
-use Rattle.std.proofs.lemmas.Bool.{and_parts, and_from, cases_Bool, eq-eqb, ne_eqb, both_ways, cond-false, or_from, or_left, or_right}
-use Rattle.std.proofs.lemmas.List.{drop_more, drop_all}
-use Rattle.paths.specs.declared.ByteClass.{ByteClass}
-use Rattle.paths.specs.declared.ByteClass.TheVariants.{Slash, KeyEnd, Plain, Outside}
-use Rattle.paths.specs.Path.{slash, head_of, steps_of, is_empty, class_of, may_stand, all_stand, none_empty, is_part, segment_count, has_slash, last_slash}
-use Rattle.paths.specs.Laws.{at_slash, past_slash, head_at_slash, head_past_slash, part_holds}
+-- What the bytes between the '/' tell of a part, and where the last '/' is.
+use Rattle.std.proofs.Common.{◌≡◌, ℕ, zero, suc, ◌+◌, ◌<◌, Bool, true, false, cond, not, ◌&&◌, ◌||◌, eqb, leb, List, [], ◌∷◌, length, get_or, Some, None, Option, sym, refl, ap, ◌∙◌, ⊎_elim, arith, count_by}
+use Rattle.std.specs.List.{list_all, slice_split, onto_first, between, AllWithin, HoldsAt}
+use Rattle.std.specs.Option.{MatchOption, unwrap_or}
+use Rattle.std.proofs.lemmas.Bool.{cases_Bool, false≢true, or_from, or_left, or_right, or_parts}
+use Rattle.std.proofs.lemmas.Bool.Decides.{nat_tests}
+use Rattle.std.proofs.lemmas.List.Splits.{length-slice_split}
+use Rattle.std.proofs.lemmas.Slice.{between_to_end}
+use Rattle.prefix.specs.Name.{Step, Name}
+use Rattle.paths.specs.declared.ByteClass.TheVariants.{KeyEnd, Plain, Outside}
+use Rattle.paths.specs.Path.{slash, class_of, is_plain, fills_segment, may_stand, head_of, steps_of, is_empty, all_stand, none_empty, is_segments, has_slash, last_slash}
+use Rattle.paths.specs.Laws.{past_slash, head_past_slash}
 
--- one byte nearer the front
-pub drop_back : (xs : List ℕ) (i : ℕ) → 0 < i → i ≤ length xs → drop (i - 1) xs ≡ get_or xs (i - 1) 0 ∷ drop i xs
-drop_back xs i some within =
-    let next : i - 1 + 1 ≡ i = omega arith in
-    drop_more xs (i - 1) 0 (omega arith) ∙ ap (λ n. get_or xs (i - 1) 0 ∷ drop n xs) next
+-- cut at each '/', the bytes are those before the first '/' and the steps
+split_is : (bs : List ℕ) → slice_split (λ b. eqb b slash) bs ≡ head_of bs ∷ steps_of bs
+split_is [] = refl
+split_is (b ∷ bs) =
+    let rest = split_is bs in
+    ⊎_elim
+    (λ (t : eqb b slash ≡ true). rw t (ap (λ (x : Name). [] ∷ x) rest))
+    (λ (t : eqb b slash ≡ false). rw t (ap (onto_first b) rest))
+    (cases_Bool (eqb b slash))
+
+pub slash_count : (bs : List ℕ) → count_by (λ b. eqb b slash) bs ≡ length (steps_of bs)
+slash_count bs = omega (arith, length-slice_split (λ b. eqb b slash) bs, ap length (split_is bs))
+
+-- some bytes that are plain fill a segment
+pub filled_by : (s : Step) (r : Bool) → eqb (length s) 0 ≡ false → r ≡ list_all (λ b. is_plain (class_of b)) s → r ≡ fills_segment s
+filled_by [] r some h = absurd (false≢true (sym some))
+filled_by (b ∷ s) r some h = h
+
+-- of a byte that is no '/'
+plain_stands : (x y : Bool) → is_plain (cond x KeyEnd (cond y Plain Outside)) ≡ may_stand (cond x KeyEnd (cond y Plain Outside))
+plain_stands true y = refl
+plain_stands false true = refl
+plain_stands false false = refl
+
+step_more : (x l a s n : Bool) → (l && a) ≡ (s && n) → ((x && l) && a) ≡ (s && (x && n))
+step_more x l a s n e = grind (arith, nat_tests)
+
+byte_more : (x y l a s n : Bool) → x ≡ y → (l && a) ≡ (s && n) → ((x && l) && a) ≡ ((y && s) && n)
+byte_more x y l a s n e f = grind (arith, nat_tests)
+
+other_class : (b : ℕ) → eqb b slash ≡ false → is_plain (class_of b) ≡ may_stand (class_of b)
+other_class b t =
+    let other : class_of b ≡ cond (eqb b 63 || eqb b 35) KeyEnd (cond (leb 0x21 b && leb b 0x7E) Plain Outside) = rw t in
+    ap is_plain other ∙ plain_stands (eqb b 63 || eqb b 35) (leb 0x21 b && leb b 0x7E) ∙ ap may_stand (sym other)
+
+-- the bytes before the first '/' are plain, and the steps fill segments
+filled : List ℕ → Bool
+filled bs = list_all (λ b. is_plain (class_of b)) (head_of bs) && list_all fills_segment (steps_of bs)
+
+filled_is : (bs : List ℕ) → filled bs ≡ (all_stand bs && none_empty (steps_of bs))
+unfolding filled
+filled_is [] = refl
+filled_is (b ∷ bs) =
+    ⊎_elim
+    (λ t. rw t (step_more (not (is_empty (head_of bs))) _ _ _ _ (filled_is bs)))
+    (λ t. simp (head_past_slash b bs t, past_slash b bs t) (byte_more _ _ _ _ _ _ (other_class b t) (filled_is bs)))
+    (cases_Bool (eqb b slash))
+
+-- segments begin with a '/', and steps follow
+after_slash : (bs : List ℕ) → list_all fills_segment (slice_split (λ x. eqb x slash) bs) ≡ is_segments (slash ∷ bs)
+unfolding filled
+after_slash bs = ap (list_all fills_segment) (split_is bs) ∙ step_more (not (is_empty (head_of bs))) _ _ _ _ (filled_is bs)
+
+pub segments_are : (bs : List ℕ) (r : Bool) → r ≡ list_all fills_segment (slice_split (λ x. eqb x slash) (between 1 (length bs) bs)) → get_or bs 0 0 ≡ slash → r ≡ is_segments bs
+segments_are [] r h e = absurd (omega arith)
+segments_are (b ∷ bs) r h e =
+    h
+    ∙ ap (λ (x : List ℕ). list_all fills_segment (slice_split (λ x. eqb x slash) x)) (between_to_end (b ∷ bs) 1 (length (b ∷ bs)) (omega arith))
+    ∙ after_slash bs ∙ ap (λ n. is_segments (n ∷ bs)) (sym e)
 
 -- the last '/'
 
-slash_at : (xs : List ℕ) (k : ℕ) → k < length xs → get_or xs k 0 ≡ slash → has_slash xs ≡ true
-slash_at [] k within e = absurd (omega arith)
-slash_at (b ∷ bs) zero within e = or_left (eqb b slash) (has_slash bs) (eq-eqb b slash e)
-slash_at (b ∷ bs) (suc k) within e = or_right (eqb b slash) (has_slash bs) (slash_at bs k (omega arith) e)
+abbrev pub NoSlash : List ℕ → ℕ → Type 0
+NoSlash bs low = AllWithin (λ b. eqb b slash ≡ false) bs low (length bs)
 
-last_at : (xs : List ℕ) (k : ℕ) → k < length xs → get_or xs k 0 ≡ slash → has_slash (drop (suc k) xs) ≡ false → last_slash xs ≡ k
-last_at [] k within e f = absurd (omega arith)
-last_at (b ∷ bs) zero within e f = rw f
-last_at (b ∷ bs) (suc k) within e f =
-    rw (slash_at bs k (omega arith) e) (ap suc (last_at bs k (omega arith) e f))
+none_within : (bs : List ℕ) → ((k : ℕ) → k < length bs → eqb (get_or bs k 0) slash ≡ false) → has_slash bs ≡ false
+none_within [] f = refl
+none_within (b ∷ bs) f =
+    or_from (eqb b slash) (has_slash bs) (f 0 (omega arith)) (none_within bs (λ k h. f (suc k) (omega arith)))
 
-pub last_slash_found : (xs : List ℕ) (i : ℕ) → 0 < i → i ≤ length xs → get_or xs (i - 1) 0 ≡ slash → has_slash (drop i xs) ≡ false → i - 1 ≡ last_slash xs
-last_slash_found xs i some within e f =
-    let next : suc (i - 1) ≡ i = omega arith in
-    sym (last_at xs (i - 1) (omega arith) e (ap (λ n. has_slash (drop n xs)) next ∙ f))
+some_within : (bs : List ℕ) (i : ℕ) → eqb (get_or bs i 0) slash ≡ true → has_slash bs ≡ true
+some_within [] i e = absurd (false≢true e)
+some_within (b ∷ bs) zero e = or_left (eqb b slash) (has_slash bs) e
+some_within (b ∷ bs) (suc i) e = or_right (eqb b slash) (has_slash bs) (some_within bs i e)
 
-pub last_slash_none : (xs : List ℕ) → has_slash xs ≡ false → 0 ≡ last_slash xs
-last_slash_none [] e = refl
-last_slash_none (b ∷ bs) e =
-    ⊎_elim
-    (λ s. absurd (both_ways (has_slash (b ∷ bs)) e (or_right (eqb b slash) (has_slash bs) s)))
-    (λ s. rw s)
-    (cases_Bool (has_slash bs))
+last_none : (bs : List ℕ) → has_slash bs ≡ false → 0 ≡ last_slash bs
+last_none [] e = refl
+last_none (b ∷ bs) e = rw (or_parts (eqb b slash) (has_slash bs) e).1
 
-pub no_slash_more : (xs : List ℕ) (i : ℕ) → 0 < i → i ≤ length xs → (get_or xs (i - 1) 0 ≡ slash → ⊥) → has_slash (drop i xs) ≡ false → has_slash (drop (i - 1) xs) ≡ false
-no_slash_more xs i some within ne f =
-    ap has_slash (drop_back xs i some within)
-    ∙ or_from (eqb (get_or xs (i - 1) 0) slash) (has_slash (drop i xs)) (ne_eqb (get_or xs (i - 1) 0) slash ne) f
+last_at : (bs : List ℕ) (i : ℕ) → eqb (get_or bs i 0) slash ≡ true → ((k : ℕ) → i < k → k < length bs → eqb (get_or bs k 0) slash ≡ false) → i ≡ last_slash bs
+last_at [] i e f = absurd (false≢true e)
+last_at (b ∷ bs) zero e f = rw (none_within bs (λ k h. f (suc k) (omega arith) (omega arith)))
+last_at (b ∷ bs) (suc i) e f =
+    rw (some_within bs i e) (ap suc (last_at bs i e (λ k h g. f (suc k) (omega arith) (omega arith))))
 
--- classes
-
-abbrev is_slash : ByteClass → Bool
-is_slash Slash = true
-is_slash KeyEnd = false
-is_slash Plain = false
-is_slash Outside = false
-
-other_class : (x y : Bool) → is_slash (cond x KeyEnd (cond y Plain Outside)) ≡ false
-other_class true y = refl
-other_class false true = refl
-other_class false false = refl
-
-class_is_slash : (b : ℕ) → is_slash (class_of b) ≡ eqb b slash
-class_is_slash b =
-    ⊎_elim
-    (λ t. rw t)
-    (λ t. rw t (other_class (eqb b 63 || eqb b 35) (leb 0x21 b && leb b 0x7E)))
-    (cases_Bool (eqb b slash))
-
-refused_class : (k : ByteClass) → (k ≡ Slash → ⊥) → (k ≡ Plain → ⊥) → may_stand k ≡ false
-refused_class Slash f g = absurd (f refl)
-refused_class KeyEnd f g = refl
-refused_class Plain f g = absurd (g refl)
-refused_class Outside f g = refl
-
--- what has been read is s: all of it may stand, its steps are counted and not empty, and whether its head is filled
-abbrev pub Read : List ℕ → ℕ → Bool → Type 0
-Read s count filled =
-    (all_stand s ≡ true) × (none_empty (steps_of s) ≡ true) × (count ≡ length (steps_of s)) × (filled ≡ not (is_empty (head_of s)))
-
-pub read_none : (xs : List ℕ) → Read (drop (length xs) xs) 0 false
-read_none xs =
-    subst (λ (s : List ℕ). Read s 0 false) (sym (drop_all (length xs) xs (omega arith))) (refl, refl, refl, refl)
-
-read_slash : (b : ℕ) (s : List ℕ) (count : ℕ) (filled : Bool) → Slash ≡ class_of b → filled ≡ true → Read s count filled → Read (b ∷ s) (count + 1) false
-read_slash b s count filled e f h =
-    let t : eqb b slash ≡ true = sym (class_is_slash b) ∙ sym (ap is_slash e) in
-    let steps = at_slash b s t in
-    let long : count + 1 ≡ suc (length (steps_of s)) = omega (arith, h.2) in (
-      and_from (may_stand (class_of b)) (all_stand s) (sym (ap may_stand e)) h.0,
-      ap none_empty steps ∙ and_from (not (is_empty (head_of s))) (none_empty (steps_of s)) (sym h.3 ∙ f) h.1,
-      long ∙ ap length (sym steps),
-      ap (λ (g : List ℕ). not (is_empty g)) (sym (head_at_slash b s t)),
-    )
-
-read_plain : (b : ℕ) (s : List ℕ) (count : ℕ) (filled : Bool) → Plain ≡ class_of b → Read s count filled → Read (b ∷ s) count true
-read_plain b s count filled e h =
-    let t : eqb b slash ≡ false = sym (class_is_slash b) ∙ sym (ap is_slash e) in
-    let steps = past_slash b s t in (
-      and_from (may_stand (class_of b)) (all_stand s) (sym (ap may_stand e)) h.0,
-      ap none_empty steps ∙ h.1,
-      h.2 ∙ ap length (sym steps),
-      ap (λ (g : List ℕ). not (is_empty g)) (sym (head_past_slash b s t)),
-    )
-
-pub read_slash_more : (xs : List ℕ) (i count : ℕ) (filled : Bool) → 0 < i → i ≤ length xs → Slash ≡ class_of (get_or xs (i - 1) 0) → filled ≡ true → Read (drop i xs) count filled → Read (drop (i - 1) xs) (count + 1) false
-read_slash_more xs i count filled some within e f h =
-    subst (λ (s : List ℕ). Read s (count + 1) false) (sym (drop_back xs i some within)) (read_slash (get_or xs (i - 1) 0) (drop i xs) count filled e f h)
-
-pub read_plain_more : (xs : List ℕ) (i count : ℕ) (filled : Bool) → 0 < i → i ≤ length xs → Plain ≡ class_of (get_or xs (i - 1) 0) → Read (drop i xs) count filled → Read (drop (i - 1) xs) count true
-read_plain_more xs i count filled some within e h =
-    subst (λ (s : List ℕ). Read s count true) (sym (drop_back xs i some within)) (read_plain (get_or xs (i - 1) 0) (drop i xs) count filled e h)
-
-steps_few : (bs : List ℕ) → length (steps_of bs) ≤ length bs
-steps_few [] = omega arith
-steps_few (b ∷ bs) =
-    ⊎_elim
-    (λ t. omega (arith, ap length (at_slash b bs t), steps_few bs))
-    (λ t. omega (arith, ap length (past_slash b bs t), steps_few bs))
-    (cases_Bool (eqb b slash))
-
-pub count_few : (xs : List ℕ) (i count : ℕ) (filled : Bool) → i ≤ length xs → Read (drop i xs) count filled → count + i ≤ length xs
-count_few xs i count filled within h = omega (arith, steps_few (drop i xs), length-drop i xs, h.2)
-
--- what stands at the end of a part
-
-back_stands : (n : ℕ) (bs : List ℕ) → all_stand bs ≡ true → all_stand (drop n bs) ≡ true
-back_stands zero bs e = e
-back_stands (suc n) [] e = refl
-back_stands (suc n) (b ∷ bs) e = back_stands n bs (and_parts (may_stand (class_of b)) (all_stand bs) e).1
-
-back_filled : (n : ℕ) (bs : List ℕ) → none_empty (steps_of bs) ≡ true → none_empty (steps_of (drop n bs)) ≡ true
-back_filled zero bs e = e
-back_filled (suc n) [] e = refl
-back_filled (suc n) (b ∷ bs) e =
-    ⊎_elim
-    (λ t. back_filled n bs (and_parts (not (is_empty (head_of bs))) (none_empty (steps_of bs)) (sym (ap none_empty (at_slash b bs t)) ∙ e)).1)
-    (λ t. back_filled n bs (sym (ap none_empty (past_slash b bs t)) ∙ e))
-    (cases_Bool (eqb b slash))
-
-not_counted : (xs : List ℕ) → (is_part xs ≡ true → ⊥) → None ≡ segment_count xs
-not_counted xs f =
-    ⊎_elim
-    (λ e. absurd (f e))
-    (λ e. sym (cond-false (is_part xs) (Some (length (steps_of xs))) None e))
-    (cases_Bool (is_part xs))
-
-pub refused_byte : (xs : List ℕ) (i : ℕ) (k : ByteClass) → 0 < i → i ≤ length xs → k ≡ class_of (get_or xs (i - 1) 0) → (k ≡ Slash → ⊥) → (k ≡ Plain → ⊥) → None ≡ segment_count xs
-refused_byte xs i k some within e f g =
-    let b = get_or xs (i - 1) 0 in
-    not_counted xs
-    (λ part.
-    let stand : all_stand (b ∷ drop i xs) ≡ true =
-    sym (ap all_stand (drop_back xs i some within)) ∙ back_stands (i - 1) xs (part_holds xs part).1 in
-    both_ways (may_stand (class_of b)) (sym (ap may_stand e) ∙ refused_class k f g) (and_parts (may_stand (class_of b)) (all_stand (drop i xs)) stand).0)
-
-pub refused_empty : (xs : List ℕ) (i count : ℕ) (filled : Bool) → 0 < i → i ≤ length xs → Slash ≡ class_of (get_or xs (i - 1) 0) → filled ≡ false → Read (drop i xs) count filled → None ≡ segment_count xs
-refused_empty xs i count filled some within e f h =
-    let b = get_or xs (i - 1) 0 in
-    let t : eqb b slash ≡ true = sym (class_is_slash b) ∙ sym (ap is_slash e) in
-    not_counted xs
-    (λ part.
-    let full : none_empty (head_of (drop i xs) ∷ steps_of (drop i xs)) ≡ true =
-    sym (ap none_empty (at_slash b (drop i xs) t)) ∙ sym (ap (λ (s : List ℕ). none_empty (steps_of s)) (drop_back xs i some within))
-    ∙ back_filled (i - 1) xs (part_holds xs part).2 in
-    both_ways (not (is_empty (head_of (drop i xs)))) (sym h.3 ∙ f)
-    (and_parts (not (is_empty (head_of (drop i xs)))) (none_empty (steps_of (drop i xs))) full).0)
+pub last_is : (bs : List ℕ) (r : Option ℕ) → MatchOption r (NoSlash bs 0) (λ i. HoldsAt (λ b. eqb b slash ≡ true) bs i × NoSlash bs (i + 1)) → unwrap_or r 0 ≡ last_slash bs
+last_is bs None f = last_none bs (none_within bs (λ k h. f k 0 (omega arith) h))
+last_is bs (Some i) f = last_at bs i (f.0 0) (λ k h g. f.1 k 0 (omega arith) g)

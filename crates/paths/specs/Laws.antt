@@ -91,12 +91,12 @@ cut_head (b ∷ bs) e =
     let rest = cut_head bs s in
     let cut = ap head_of (cut_later b bs s) in
     ⊎_elim
-    (λ t. cut ∙ head_at_slash b (take (last_slash bs) bs) t ∙ sym (head_at_slash b bs t))
-    (λ t. cut ∙ head_past_slash b (take (last_slash bs) bs) t ∙ ap (λ (h : Step). b ∷ h) rest ∙ sym (head_past_slash b bs t))
+    (λ (t : (b == slash) ≡ true). cut ∙ rw t)
+    (λ (t : (b == slash) ≡ false). cut ∙ rw t (ap (λ (h : Step). b ∷ h) rest))
     (cases_Bool (b == slash)))
     (λ s.
     ⊎_elim
-    (λ t. ap head_of (cut_here b bs s) ∙ sym (head_at_slash b bs t))
+    (λ (t : (b == slash) ≡ true). ap head_of (cut_here b bs s) ∙ rw t)
     (λ t. absurd (both_ways (has_slash (b ∷ bs)) (or_from (b == slash) (has_slash bs) t s) e))
     (cases_Bool (b == slash)))
     (cases_Bool (has_slash bs))
@@ -114,14 +114,14 @@ cut_steps (b ∷ bs) =
     let head = cut_head bs s in
     let joined : head_of front ∷ steps_of front ≡ head_of bs ∷ parent_name (steps_of bs) = cc in
     cut ∙ at_slash b front t ∙ joined ∙ sym (parent_cons (head_of bs) (steps_of bs) (stepped bs s)) ∙ ap parent_name (sym (at_slash b bs t)))
-    (λ t. cut ∙ past_slash b front t ∙ rest ∙ ap parent_name (sym (past_slash b bs t)))
+    (λ (t : (b == slash) ≡ false). cut ∙ rw t rest)
     (cases_Bool (b == slash)))
     (λ s.
     let none = stepless bs s in
     let cut = ap steps_of (cut_here b bs s) in
     ⊎_elim
-    (λ t. cut ∙ ap (λ (p : Name). parent_name (head_of bs ∷ p)) (sym none) ∙ ap parent_name (sym (at_slash b bs t)))
-    (λ t. cut ∙ ap parent_name (sym none) ∙ ap parent_name (sym (past_slash b bs t)))
+    (λ (t : (b == slash) ≡ true). cut ∙ rw (t, none))
+    (λ (t : (b == slash) ≡ false). cut ∙ rw (t, none))
     (cases_Bool (b == slash)))
     (cases_Bool (has_slash bs))
 

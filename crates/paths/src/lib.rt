@@ -4,15 +4,14 @@
 // puts the hierarchy together, with its laws from specs/Laws.
 #![tactic(auto)]
 
-ghost use Rattle.std.specs.Prelude.{◌≡◌, true, length};
+ghost use Rattle.std.specs.Prelude.{◌≡◌, true, length, ◌==◌, Some, None, option_copied, if◌then◌else◌};
+ghost use Rattle.std.specs.List.{list_all, slice_split};
 ghost use Rattle.prefix.specs.Name.{same_name, name_before};
-ghost use Rattle.paths.specs.Path.{class_of, is_part, steps_of, segment_count, last_slash, rank_of, ranked_before};
-ghost use Rattle.paths.specs.Hierarchy.{lies, bytes_in, is_path, path_name, root_place, shortened, parent_place};
+ghost use Rattle.paths.specs.Path.{slash, class_of, is_plain, fills_segment, is_segments, is_part, steps_of, segment_count, last_slash, rank_of, ranked_before};
+ghost use Rattle.paths.specs.Hierarchy.{lies, bytes_at, bytes_in, is_path, path_name, root_place, shortened, parent_place};
 ghost use Rattle.paths.specs.Meaning.{path_meaning};
 
 use prefix::{Hierarchy, OrderedHierarchy};
-
-mod texts;
 
 // The most segments of a path.
 pub const PATH_DEPTH: usize = 8;
@@ -48,43 +47,61 @@ pub fn class_of(byte: u8) -> ByteClass
     }
 }
 
-// How many segments the bytes have, or none where they are no path of at most eight segments. From the end to the
-// front, since a segment's '/' then says at once whether the segment is empty.
-fn segments(part: &[u8]) -> Option<usize>
-    ensures { result ≡ segment_count part.now }
+// Whether the byte fills a segment.
+fn is_plain(byte: u8) -> bool
+    ensures { result ≡ is_plain (class_of byte) }
 {
-    let mut count: usize = 0;
-    let mut filled = false;
-    for i in (0..part.len()).rev() {
-        match class_of(part[i]) {
-            ByteClass::Slash => {
-                if !filled {
-                    return None;
-                }
-                filled = false;
-                count += 1;
-            }
-            ByteClass::Plain => filled = true,
-            _ => return None,
-        }
-    }
-    if filled || count > PATH_DEPTH {
-        None
-    } else {
-        Some(count)
+    class_of(byte) == ByteClass::Plain
+}
+
+// Whether the bytes are one step: some, each of which fills a segment.
+fn is_step(bytes: &[u8]) -> bool
+    ensures { result ≡ fills_segment bytes.now }
+{
+    !bytes.is_empty() && bytes.iter().all(|byte| is_plain(*byte))
+}
+
+// Whether the bytes between the '/' are steps, those before the first '/' and after the last too.
+fn are_steps(bytes: &[u8]) -> bool
+    ensures { result ≡ list_all fills_segment (slice_split (λ b. b == slash) bytes.now) }
+{
+    bytes.split(|byte| *byte == b'/').all(is_step)
+}
+
+// How many '/' there are. A step follows each.
+#[tactic(auto, using(crate::proofs::Reading::slash_count))]
+fn slashes(bytes: &[u8]) -> usize
+    ensures { result ≡ length (steps_of bytes.now) }
+{
+    bytes.iter().filter(|byte| **byte == b'/').count()
+}
+
+// Whether the bytes are none, or segments: each a '/' and then a step.
+#[tactic(auto, using(crate::proofs::Reading::segments_are))]
+fn are_segments(part: &[u8]) -> bool
+    ensures { result ≡ is_segments part.now }
+{
+    match part {
+        [] => true,
+        [b'/', rest @ ..] => are_steps(rest),
+        _ => false,
     }
 }
 
+// How many segments the bytes have, or none where they are no path of at most eight segments.
+fn segments(part: &[u8]) -> Option<usize>
+    ensures { result ≡ segment_count part.now }
+{
+    let count = slashes(part);
+    (are_segments(part) && count <= PATH_DEPTH).then_some(count)
+}
+
 // Where the last segment starts; 0 where there is none. The front up to there is the part without its last segment.
+#[tactic(auto, using(crate::proofs::Reading::last_is))]
 fn last_slash(part: &[u8]) -> usize
     ensures { result ≡ last_slash part.now }
 {
-    for i in (0..part.len()).rev() {
-        if part[i] == b'/' {
-            return i;
-        }
-    }
-    0
+    part.iter().rposition(|byte| *byte == b'/').unwrap_or(0)
 }
 
 // A byte's rank in the order of paths: '/' before all others, so that a step that ends comes before one that goes on.
@@ -97,7 +114,8 @@ fn rank(byte: u8) -> u8
     }
 }
 
-// Whether two parts have the same steps: they have the same bytes then.
+// Whether two parts have the same steps: they have the same bytes then. A comparison takes two keys, and no pair of them.
+#[tactic(auto, using(crate::proofs::Names::same_parts))]
 fn same_steps(one: &[u8], other: &[u8]) -> bool
     ensures { is_part one.now ≡ true → is_part other.now ≡ true → result ≡ same_name (steps_of one.now) (steps_of other.now) }
 {
@@ -110,12 +128,8 @@ fn comes_before(one: &[u8], other: &[u8]) -> bool
     ensures ranked { result ≡ ranked_before one.now other.now }
     ensures named { is_part one.now ≡ true → is_part other.now ≡ true → result ≡ name_before (steps_of one.now) (steps_of other.now) }
 {
-    for (a, b) in one.iter().zip(other) {
-        if rank(*a) != rank(*b) {
-            return rank(*a) < rank(*b);
-        }
-    }
-    one.len() < other.len()
+    let ranks = one.iter().map(|byte| rank(*byte));
+    ranks.cmp(other.iter().map(|byte| rank(*byte))).is_lt()
 }
 
 // The hierarchy of the paths in one text.
@@ -125,25 +139,35 @@ pub struct Paths<'a> {
 }
 
 impl<'a> Paths<'a> {
-    // Whether the place lies in the text. The sum of offset and length is not taken, since it may not fit.
-    fn holds(&self, key: Place) -> bool
-        ensures { result ≡ lies self.now.text.now key }
+    // Over a text, which says what its places mean: a caller of the trait's questions learns no more than what they say of
+    // `means`.
+    pub fn new(text: &'a [u8]) -> Paths<'a>
+        ensures over { result.text.now ≡ text.now }
+        ensures meaning { ⟦<Paths<'a> as Hierarchy>⟧.means result ≡ path_meaning text.now }
     {
-        let size = self.text.len();
-        key.offset <= size && key.length <= size - key.offset
+        Paths { text }
+    }
+
+    pub fn text(&self) -> &'a [u8]
+        ensures { result.now ≡ self.now.text.now }
+    {
+        self.text
+    }
+
+    // The bytes at a place; `None` where it lies outside the text, as where its end fits no word.
+    fn bytes(&self, key: Place) -> Option<&'a [u8]>
+        ensures { option_copied result ≡ (if lies self.now.text.now key then Some (bytes_at self.now.text.now key) else None) }
+    {
+        key.offset
+            .checked_add(key.length)
+            .and_then(|end| self.text.get(key.offset..end))
     }
 
     // The bytes that a key stands for; none where the place lies outside the text.
     pub fn part(&self, key: Place) -> &'a [u8]
         ensures { result.now ≡ bytes_in self.now.text.now key }
     {
-        let text = self.text;
-        let Place { offset, length } = key;
-        if self.holds(key) {
-            &text[offset..offset + length]
-        } else {
-            &[]
-        }
+        self.bytes(key).unwrap_or(&[])
     }
 
     // The place up to where its last segment starts.
@@ -161,16 +185,12 @@ impl<'a> Paths<'a> {
         ensures sound { is_part result.now ≡ true }
         ensures named { steps_of result.now ≡ path_name self.now.text.now key }
     {
-        if self.is_valid(key) {
-            self.part(key)
-        } else {
-            &[]
-        }
+        self.part(self.named(key))
     }
 }
 
 // Each answer is said here by the name of the key itself, and not only by what `means` calls its name: a hierarchy whose
-// keys all mean the root would meet the trait's contracts. That `means` gives these very names is said in `texts`.
+// keys all mean the root would meet the trait's contracts. That `means` gives these very names is said in `new`.
 impl<'a> Hierarchy for Paths<'a> {
     type Key = Place;
 
@@ -196,13 +216,13 @@ impl<'a> Hierarchy for Paths<'a> {
     fn is_valid(&self, key: Place) -> bool
         ensures { result ≡ is_path self.now.text.now key }
     {
-        self.holds(key) && segments(self.part(key)).is_some()
+        self.bytes(key).and_then(segments).is_some()
     }
 
     fn level(&self, key: Place) -> usize
         ensures { result ≡ length (path_name self.now.text.now key) }
     {
-        segments(self.part(key)).unwrap_or(0)
+        self.bytes(key).and_then(segments).unwrap_or(0)
     }
 
     fn parent(&self, key: Place) -> Place

@@ -1,11 +1,10 @@
 -- The laws of names.
-use Rattle.std.proofs.Common.{◌≡◌, ℕ, suc, ◌+◌, ◌-◌, ◌<◌, ◌≤◌, Bool, true, false, cond, not, eqb, ltb, ◌⊎◌, [], ◌∷◌, length, take, Ordering, Less, Equal, Greater, sym, refl, ap, ◌∙◌, inl, inr, ⊎_elim, arith}
+use Rattle.std.proofs.Common.{◌≡◌, ℕ, suc, ◌+◌, ◌-◌, ◌<◌, ◌≤◌, true, false, not, eqb, ltb, ◌⊎◌, [], ◌∷◌, length, take, sym, refl, ap, ◌∙◌, inl, inr, ⊎_elim, arith}
 use Rattle.std.proofs.lemmas.Bool.{and_parts, and_from, not-true, not_from_false, cases_Bool, cases_lt, both_ways}
 use Rattle.std.proofs.lemmas.List.{take_all, take-take, length-take-le}
-use Rattle.std.specs.Ordering.{MatchOrdering}
 use Rattle.std.proofs.lemmas.Bool.Decides.{same_from_decides}
 use Rattle.prefix.specs.Order.{StrictTotalOrder}
-use Rattle.prefix.specs.Name.{Name, same_step, same_name, step_before, name_before, order_of, covers, above, parent_name}
+use Rattle.prefix.specs.Name.{Name, same_step, same_name, step_before, name_before, covers, above, parent_name}
 use Rattle.prefix.specs.Meaning.{Meaning}
 use Rattle.prefix.specs.Laws.{OrderLaws, AncestryLaws}
 use Rattle.prefix.proofs.Orders.{byte_order, list_order, front_first, front_between, front_refl, front_trans, fronts_compare, front_of_take, take_front, front_no_longer}
@@ -22,7 +21,7 @@ name_same p q e = (name_order.same_is_equal p q).0 e
 pub name_refl : (p : Name) → same_name p p ≡ true
 name_refl p = (name_order.same_is_equal p p).1 refl
 
-not_before_itself : (p q : Name) → p ≡ q → name_before p q ≡ true → ⊥
+pub not_before_itself : (p q : Name) → p ≡ q → name_before p q ≡ true → ⊥
 not_before_itself p q e f = both_ways (name_before p q) (ap (name_before p) (sym e) ∙ name_order.irreflexive p) f
 
 above_parts : (p q : Name) → above p q ≡ true → (covers p q ≡ true) × (p ≡ q → ⊥)
@@ -133,32 +132,20 @@ ancestry_laws =
 
 -- the answers of the two calls
 
-by_answers : (before same : Bool) (P Q R : Type 0) → (before ≡ true → P) → (same ≡ true → Q) → (before ≡ false → same ≡ false → R) → MatchOrdering (cond before Less (cond same Equal Greater)) P Q R
-by_answers true same P Q R p q r = p refl
-by_answers false true P Q R p q r = q refl
-by_answers false false P Q R p q r = r refl refl
-
-neither : (p q : Name) → name_before p q ≡ false → same_name p q ≡ false → name_before q p ≡ true
+pub neither : (p q : Name) → name_before p q ≡ false → same_name p q ≡ false → name_before q p ≡ true
 neither p q b s =
     ⊎_elim
     (λ e. absurd (both_ways (same_name p q) s ((name_order.same_is_equal p q).1 e)))
     (λ h. ⊎_elim (λ f. absurd (both_ways (name_before p q) b f)) (λ f. f) h)
     (name_order.total p q)
 
-pub ranked_by_order : (p q : Name) (r : Ordering) → r ≡ order_of p q → MatchOrdering r (name_before p q ≡ true) (p ≡ q) (name_before q p ≡ true)
-ranked_by_order p q r e =
-    rw e (by_answers (name_before p q) (same_name p q) (name_before p q ≡ true) (p ≡ q) (name_before q p ≡ true) (λ b. b) (name_same p q) (neither p q))
-
 -- a name is covered exactly when its front part of that length is the other
-covers_front : (p q : Name) → same_name (take (length p) q) p ≡ covers p q
+pub covers_front : (p q : Name) → same_name (take (length p) q) p ≡ covers p q
 covers_front p q =
     same_from_decides (same_name (take (length p) q) p) (covers p q) (name_order.same_is_equal (take (length p) q) p) (
       (λ e. ancestor_is_front p q e),
       (λ e. ap (λ (x : Name). covers x q) (sym e) ∙ front_covers (length p) q),
     )
-
-pub covered_by_front : (p q : Name) (r : Bool) → r ≡ same_name (take (length p) q) p → r ≡ covers p q
-covered_by_front p q r e = e ∙ covers_front p q
 
 -- one parent further up
 parent_of_front : (i : ℕ) (p : Name) → i < length p → parent_name (take (length p - i) p) ≡ take (length p - (i + 1)) p

@@ -4,7 +4,7 @@
 // specs/Meaning.
 #![tactic(auto)]
 
-ghost use Rattle.std.specs.Prelude.{◌≡◌, length};
+ghost use Rattle.std.specs.Prelude.{◌≡◌, true, length, if◌then◌else◌};
 ghost use Rattle.prefix.specs.Name.{same_name, name_before};
 ghost use Rattle.prefix.specs.Meaning.{Meaning};
 
@@ -43,6 +43,16 @@ pub trait Hierarchy {
     // A key whose name lacks the last step.
     fn parent(&self, key: Self::Key) -> Self::Key
         ensures { result ≡ (means self.now).parent_of key };
+
+    // The valid key that has the key's name: the key itself, or the root for a key that is not valid. Two names can then
+    // be compared by their valid keys.
+    fn named(&self, key: Self::Key) -> Self::Key
+        ensures value { result ≡ (if (means self.now).is_valid key then key else (means self.now).root_key) }
+        ensures valid { (means self.now).is_valid result ≡ true }
+        ensures named { (means self.now).name_of result ≡ (means self.now).name_of key }
+    {
+        if self.is_valid(key) { key } else { self.root() }
+    }
 
     // Whether two keys have one name.
     fn same(&self, one: Self::Key, other: Self::Key) -> bool

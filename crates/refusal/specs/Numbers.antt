@@ -1,5 +1,5 @@
 -- The number of each refusal, and the layer that gives it inside a feed.
-use Rattle.std.specs.Prelude.{ℕ}
+use Rattle.std.specs.Prelude.{ℕ, List, ◌++◌, codes, decimal}
 use Rattle.refusal.specs.declared.Refusal.{Refusal}
 use Rattle.refusal.specs.declared.Refusal.TheVariants.{WidthOutOfRange, ShareOutOfRange, ShareTooSmall, KeyNotValid, TotalTooLarge, NoFreeSlot, StartPastEnd, NoLineFeed, NoLeadingSlash, PathByte, EmptySegment, PathTooLong, WeightMalformed}
 use Rattle.refusal.specs.declared.Layer.{Layer}
@@ -34,3 +34,7 @@ layer_of PathByte = Reader
 layer_of EmptySegment = Reader
 layer_of PathTooLong = Reader
 layer_of WeightMalformed = Reader
+
+-- what is printed for a refusal
+abbrev pub refusal_text : Refusal → List ℕ
+refusal_text refusal = codes "refused " ++ decimal (number_of refusal)

@@ -3,8 +3,11 @@
 // `number_of` in specs/, and `number` answers by it.
 #![tactic(auto)]
 
-ghost use Rattle.std.specs.Prelude.{◌≡◌};
-ghost use Rattle.refusal.specs.Numbers.{number_of, layer_of};
+ghost use Rattle.std.specs.Prelude.{◌≡◌, Some};
+ghost use Rattle.refusal.specs.Numbers.{number_of, layer_of, refusal_text};
+
+use std::error::Error;
+use std::fmt;
 
 #[derive(Clone, Copy, Debug, PartialEq, Eq)]
 pub enum Refusal {
@@ -34,7 +37,8 @@ pub enum Layer {
 }
 
 impl Refusal {
-    // The number that is printed and documented for this refusal.
+    // The number that is printed and documented for this refusal. One function gives them all, as the project asks, and one
+    // definition says them.
     pub fn number(self) -> u8
         ensures { result ≡ number_of self }
     {
@@ -65,3 +69,15 @@ impl Refusal {
         }
     }
 }
+
+// What is printed for a refusal: the word and its number.
+impl fmt::Display for Refusal {
+    ghost output = { λ refusal. Some (refusal_text refusal) };
+
+    fn fmt<W: fmt::Write>(&self, f: &mut fmt::Formatter<W>) -> fmt::Result {
+        let number = self.number();
+        write!(f, "refused {number}")
+    }
+}
+
+impl Error for Refusal {}

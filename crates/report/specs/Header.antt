@@ -1,15 +1,10 @@
 -- The first line of a report's input: width and share, each written as a weight, with one space between.
-use Rattle.std.specs.Prelude.{ℕ, cond, List, [], ◌∷◌, Some, None, Option, ◌==◌}
-use Rattle.std.specs.Option.{option_map}
+use Rattle.std.specs.Prelude.{ℕ, List, Some, None, Option}
 use Rattle.refusal.specs.declared.Refusal.{Refusal}
 use Rattle.refusal.specs.declared.Refusal.TheVariants.{WeightMalformed}
+use Rattle.fields.specs.Split.{split}
 use Rattle.fields.specs.Weight.{weight_of}
 use Rattle.settings.specs.Rules.{settings_refusal}
-
--- the bytes before the first such byte, and those behind it; none where it does not stand
-abbrev pub split : ℕ → List ℕ → Option (List ℕ × List ℕ)
-split byte [] = None
-split byte (b ∷ bs) = cond (b == byte) (Some ([], bs)) (option_map (λ p. (b ∷ p.0, p.1)) (split byte bs))
 
 abbrev pub both : Option ℕ → Option ℕ → Option (ℕ × ℕ)
 both None s = None

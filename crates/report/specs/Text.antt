@@ -1,11 +1,11 @@
 -- The text of a report.
 use Rattle.std.specs.Prelude.{◌≡◌, ℕ, ◌⊎◌, List, ◌++◌, codes, decimal}
 use Rattle.refusal.specs.declared.Refusal.{Refusal}
-use Rattle.refusal.specs.Numbers.{number_of}
+use Rattle.refusal.specs.Numbers.{refusal_text}
 
 -- `refused N` and a line feed
 abbrev pub refused_text : Refusal → List ℕ
-refused_text refusal = codes "refused " ++ (decimal (number_of refusal) ++ codes "\n")
+refused_text refusal = refusal_text refusal ++ codes "\n"
 
 -- `total N error E` and a line feed
 abbrev pub total_text : ℕ → ℕ → List ℕ

@@ -2,16 +2,16 @@
 // path log, and out come the total, the error and the heavy paths, or one line that names a refusal.
 #![tactic(auto)]
 
-ghost use Rattle.std.specs.Prelude.{◌≡◌, take, IfSome, IfOk, Some, None, string_bytes, MatchResult};
-ghost use Rattle.std.specs.Option.{option_map};
-ghost use Rattle.report.specs.Header.{split, pair_of, pair_refusal, header_refusal};
+ghost use Rattle.std.specs.Prelude.{◌≡◌, take, IfSome, IfOk, OnOk, Some, None, string_bytes, MatchResult};
+ghost use Rattle.report.specs.Header.{pair_of, pair_refusal, header_refusal};
 ghost use Rattle.report.specs.Text.{refused_text, total_text, Extends, IsReport};
 
-use fields::{index_of, read_weight};
+use fields::{read_weight, split_at_byte};
 use figures::Row;
 use model::Node;
 use pathlog::feed;
 use paths::{Paths, Place};
+use prefix::Hierarchy;
 use refusal::Refusal;
 use settings::Settings;
 use std::alloc::{AllocError, Global};
@@ -24,53 +24,44 @@ pub const TABLE_SLOTS: usize = 1024;
 pub const INPUT_LIMIT: usize = 65_536;
 
 // The part of an input that is reported.
+#[tactic(auto, using(std::proofs::lemmas::List::take_min))]
 pub fn within_limit(input: &[u8]) -> &[u8]
     ensures { result.now ≡ take 65536 input.now }
 {
-    if input.len() > INPUT_LIMIT {
-        &input[0..INPUT_LIMIT]
-    } else {
-        input
-    }
-}
-
-// The bytes before the first such byte, and those behind it.
-fn split_once(bytes: &[u8], byte: u8) -> Option<(&[u8], &[u8])>
-    ensures { option_map (λ p. (p.0.now, p.1.now)) result ≡ split byte bytes.now }
-{
-    let at = index_of(bytes, byte);
-    if at == bytes.len() {
-        return None;
-    }
-    Some((&bytes[0..at], &bytes[at + 1..bytes.len()]))
+    &input[..INPUT_LIMIT.min(input.len())]
 }
 
 // The two weights of a line, with one space between.
 fn read_pair(line: &[u8]) -> Option<(u32, u32)>
     ensures { result ≡ pair_of line.now }
 {
-    let (first, second) = split_once(line, b' ')?;
-    let width = read_weight(first)?;
-    let share = read_weight(second)?;
-    Some((width, share))
+    let (width, share) = split_at_byte(line, b' ')?;
+    Some((read_weight(width)?, read_weight(share)?))
 }
 
 // The settings that the first line says.
 fn read_settings(line: &[u8]) -> Result<Settings, Refusal>
     ensures { MatchResult result (λ _. pair_refusal (pair_of line.now) ≡ None) (λ e. pair_refusal (pair_of line.now) ≡ Some e) }
 {
-    let Some((width, share)) = read_pair(line) else {
-        return Err(Refusal::WeightMalformed);
-    };
+    let (width, share) = read_pair(line).ok_or(Refusal::WeightMalformed)?;
     Settings::new(width, share)
 }
 
-// The one line of a report that is refused.
-fn refused_text(heap: Global, refusal: Refusal) -> Result<String, AllocError>
-    ensures { IfOk result (λ t. string_bytes t ≡ refused_text refusal) }
+// The settings in the first line of an input, and the log behind it.
+fn read_input(input: &[u8]) -> Result<(Settings, &[u8]), Refusal>
+    ensures { MatchResult result (λ _. header_refusal input.now ≡ None) (λ e. header_refusal input.now ≡ Some e) }
 {
-    let number = refusal.number();
-    format!(in heap; "refused {number}\n")
+    let (line, log) = split_at_byte(input, b'\n').ok_or(Refusal::WeightMalformed)?;
+    Ok((read_settings(line)?, log))
+}
+
+// The one line of a report that is refused. That a text is a report stands in the clauses of three functions: the program
+// prints a `String`, and a type around it for the two that are private would be opened again at once.
+fn refused_text(heap: Global, refusal: Refusal) -> Result<String, AllocError>
+    ensures text { IfOk result (λ t. string_bytes t ≡ refused_text refusal) }
+    ensures form { IfOk result (λ t. IsReport (string_bytes t)) }
+{
+    format!(in heap; "{refusal}\n")
 }
 
 fn total_text(heap: Global, total: u64, error: u64) -> Result<String, AllocError>
@@ -79,75 +70,48 @@ fn total_text(heap: Global, total: u64, error: u64) -> Result<String, AllocError
     format!(in heap; "total {total} error {error}\n")
 }
 
-// Adds the path of a row to the text; the root's as `/`.
-fn push_path(text: &mut String, path: &[u8]) -> Result<(), AllocError>
-    ensures { Extends (string_bytes text.old) (string_bytes text.new) }
+// Adds a row to the text: its path, the root's as `/`, and its figures.
+fn push_row(text: &mut String, path: &[u8], row: Row<Place>) -> Result<(), AllocError>
+    ensures { OnOk result (Extends (string_bytes text.old) (string_bytes text.new)) }
 {
-    if path.is_empty() {
-        return text.push('/');
-    }
-    for byte in path {
-        text.push(char::from(*byte))?;
-    }
-    Ok(())
+    let path = if path.is_empty() { b"/" } else { path };
+    text.extend(path.iter().map(|byte| char::from(*byte)))?;
+    writeln!(text, " {} {} {}", row.lower, row.upper, row.discounted)
 }
 
-fn push_row(
-    text: &mut String,
-    heap: Global,
-    paths: &Paths<'_>,
-    row: Row<Place>,
-) -> Result<(), AllocError>
-    ensures { Extends (string_bytes text.old) (string_bytes text.new) }
-{
-    push_path(text, paths.part(row.key))?;
-    let Row {
-        lower,
-        upper,
-        discounted,
-        ..
-    } = row;
-    let figures = format!(in heap; " {lower} {upper} {discounted}\n")?;
-    text.push_str(figures.as_str())
-}
-
-// Adds all rows of a listing. There is at most one for each slot, and the root's.
+// Adds all rows of a listing. There is at most one for each slot, and the root's. A chain of `successors` says it shorter, but
+// a closure that holds the listing beside rows with a ghost field gets no proof.
 fn push_rows(
     text: &mut String,
-    heap: Global,
     paths: &Paths<'_>,
     listing: &mut Listing<'_, Place>,
 ) -> Result<(), AllocError>
-    ensures { Extends (string_bytes text.old) (string_bytes text.new) }
+    ensures { OnOk result (Extends (string_bytes text.old) (string_bytes text.new)) }
 {
     let mut next = listing.first(paths);
-    for _ in 0..TABLE_SLOTS + 1 {
+    for _ in 0..=TABLE_SLOTS {
         let Some(row) = next else {
             break;
         };
-        push_row(text, heap, paths, row)?;
+        push_row(text, paths.part(row.key), row)?;
         next = listing.after(paths, row.key).ok().flatten();
     }
     Ok(())
 }
 
-// The report of a log that is counted in a table.
-fn report_log(
-    heap: Global,
-    settings: Settings,
-    log: &[u8],
-    table: &mut [Node<Place>],
-) -> Result<String, AllocError>
+// The report of a log.
+fn report_log(heap: Global, settings: Settings, log: &[u8]) -> Result<String, AllocError>
     ensures { IfOk result (λ t. IsReport (string_bytes t)) }
 {
     let paths = Paths::new(log);
-    let mut summary = Summary::open(settings, table);
+    let mut table = vec![in heap; Node::vacant(paths.root()); TABLE_SLOTS]?;
+    let mut summary = Summary::open(settings, table.as_mut_slice());
     if let Err(stop) = feed(&paths, &mut summary, 0) {
         return refused_text(heap, stop.refusal);
     }
     let mut text = total_text(heap, summary.total(), summary.error())?;
     let mut listing = Listing::open(summary);
-    push_rows(&mut text, heap, &paths, &mut listing)?;
+    push_rows(&mut text, &paths, &mut listing)?;
     Ok(text)
 }
 
@@ -156,17 +120,8 @@ pub fn path_report(heap: Global, input: &[u8]) -> Result<String, AllocError>
     ensures form { IfOk result (λ t. IsReport (string_bytes t)) }
     ensures header { IfOk result (λ t. IfSome (header_refusal input.now) (λ e. string_bytes t ≡ refused_text e)) }
 {
-    let Some((line, log)) = split_once(input, b'\n') else {
-        return refused_text(heap, Refusal::WeightMalformed);
-    };
-    let settings = match read_settings(line) {
-        Ok(settings) => settings,
-        Err(refusal) => return refused_text(heap, refusal),
-    };
-    let vacant = Node::vacant(Place {
-        offset: 0,
-        length: 0,
-    });
-    let mut table = vec![in heap; vacant; TABLE_SLOTS]?;
-    report_log(heap, settings, log, table.as_mut_slice())
+    match read_input(input) {
+        Ok((settings, log)) => report_log(heap, settings, log),
+        Err(refusal) => refused_text(heap, refusal),
+    }
 }

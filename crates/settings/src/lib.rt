@@ -27,10 +27,10 @@ impl Settings {
     pub fn new(width: u32, share: u32) -> Result<Settings, Refusal>
         ensures { MatchResult result (λ s. (settings_refusal width share ≡ None) × (s.width ≡ width) × (s.share ≡ share)) (λ e. settings_refusal width share ≡ Some e) }
     {
-        if width < 2 || width > LARGEST_WIDTH {
+        if !(2..=LARGEST_WIDTH).contains(&width) {
             return Err(Refusal::WidthOutOfRange);
         }
-        if share < 1 || share > LARGEST_SHARE {
+        if !(1..=LARGEST_SHARE).contains(&share) {
             return Err(Refusal::ShareOutOfRange);
         }
         if share * width <= 1000 {

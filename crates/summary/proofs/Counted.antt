@@ -17,8 +17,9 @@ use Rattle.model.specs.Table.{lineage}
 use Rattle.model.specs.Answers.{SameTable}
 use Rattle.model.proofs.Nodes.{taken_at, names_taken}
 use Rattle.model.proofs.Counts.{owns_total}
-use Rattle.model.proofs.AddingHelp.{length_lineage}
-use Rattle.model.proofs.Adding.{made_shape, counted_sound}
+use Rattle.model.proofs.Lineages.{length_lineage}
+use Rattle.model.proofs.Making.{made_shape}
+use Rattle.model.proofs.Adding.{counted_sound}
 use Rattle.model.proofs.Calls.{room_from}
 use Rattle.table.specs.declared.lookup.Ancestry.{Ancestry}
 use Rattle.table.specs.Ancestors.{Ancestors}

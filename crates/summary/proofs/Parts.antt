@@ -1,35 +1,20 @@
 -- The slots in use as a part of the table.
-use Rattle.std.proofs.Common.{◌≡◌, ℕ, ◌+◌, ◌-◌, ◌≤◌, min, List, ◌++◌, length, take, drop, sym, refl, ap, ◌∙◌, subst, arith}
+use Rattle.std.proofs.Common.{◌≡◌, ℕ, ◌+◌, ◌-◌, ◌≤◌, min, List, ◌++◌, length, take, drop, sym, refl, ap, ◌∙◌, arith}
 use Rattle.std.proofs.lemmas.List.{append_assoc, length-append, length-take-le, length-drop, take-append-le, take_at, take-take, drop-take}
 use Rattle.prefix.specs.Meaning.{Meaning}
 use Rattle.model.specs.declared.Node.{Node}
 use Rattle.model.specs.declared.Root.{Root}
-use Rattle.model.specs.State.{largest_total}
-use Rattle.model.specs.Summary.{names_of, swept_tree, bounds_of}
-use Rattle.model.specs.Sound.{Formed, SoundTree}
+use Rattle.model.specs.State.{Tree, largest_total}
+use Rattle.model.specs.Summary.{swept_tree}
+use Rattle.model.specs.Sound.{SoundTree}
 use Rattle.model.specs.Table.{lineage}
-use Rattle.table.specs.declared.lookup.Ancestry.{Ancestry}
-use Rattle.table.specs.Ancestors.{Ancestors}
-use Rattle.model.proofs.Folding.{tree_of}
-use Rattle.model.proofs.AddingHelp.{length_lineage}
+use Rattle.model.proofs.Handing.{tree_of}
+use Rattle.model.proofs.Lineages.{length_lineage}
 
 -- what the front part is swept to stands at the front of the whole
-pub swept_part : {K : Type 0} (m : Meaning K) (ns last after : List (Node K)) (used part kept : ℕ) (root root' : Root) (e : ℕ) → part ≡ used → length last ≡ length (take part ns) → kept ≤ length (take part ns) → ((total : ℕ) → SoundTree m total e (tree_of root (take part ns)) → e ≤ largest_total → tree_of root' (take kept last) ≡ swept_tree m e (tree_of root (take part ns))) → (total : ℕ) → SoundTree m total e (tree_of root (take used ns)) → e ≤ largest_total → tree_of root' (take kept (last ++ after)) ≡ swept_tree m e (tree_of root (take used ns))
-swept_part m ns last after used part kept root root' e same long within value =
-    subst
-    (λ (u : ℕ). (total : ℕ) → SoundTree m total e (tree_of root (take u ns)) → e ≤ largest_total → tree_of root' (take kept (last ++ after)) ≡ swept_tree m e (tree_of root (take u ns)))
-    same
-    (λ total s small. ap (tree_of root') (take-append-le kept last after (omega arith)) ∙ value total s small)
-
-pub bounds_part : {K : Type 0} (m : Meaning K) (ns : List (Node K)) (used part : ℕ) (root : Root) (key : K) (r : ℕ × ℕ) → part ≡ used → ((total e : ℕ) → SoundTree m total e (tree_of root (take part ns)) → e ≤ largest_total → r ≡ bounds_of m (tree_of root (take part ns)) (m.name_of key)) → (total e : ℕ) → SoundTree m total e (tree_of root (take used ns)) → e ≤ largest_total → r ≡ bounds_of m (tree_of root (take used ns)) (m.name_of key)
-bounds_part m ns used part root key r same value =
-    subst
-    (λ (u : ℕ). (total e : ℕ) → SoundTree m total e (tree_of root (take u ns)) → e ≤ largest_total → r ≡ bounds_of m (tree_of root (take u ns)) (m.name_of key))
-    same value
-
-pub climb_part : {K : Type 0} (m : Meaning K) (ns : List (Node K)) (used part : ℕ) (root : Root) (key : K) (a : Ancestry) → part ≡ used → (Formed (names_of m (take part ns)) → (r : Root) → r.ceiling ≡ root.ceiling → Ancestors m (take part ns) key r a) → Formed (names_of m (take used ns)) → Ancestors m (take used ns) key root a
-climb_part m ns used part root key a same value =
-    subst (λ (u : ℕ). Formed (names_of m (take u ns)) → Ancestors m (take u ns) key root a) same (λ f. value f root refl)
+pub swept_part : {K : Type 0} (m : Meaning K) (last after : List (Node K)) (kept : ℕ) (root' : Root) (e : ℕ) (t : Tree K) → kept ≤ length last → ((total : ℕ) → SoundTree m total e t → e ≤ largest_total → tree_of root' (take kept last) ≡ swept_tree m e t) → (total : ℕ) → SoundTree m total e t → e ≤ largest_total → tree_of root' (take kept (last ++ after)) ≡ swept_tree m e t
+swept_part m last after kept root' e t within value =
+    λ total s small. ap (tree_of root') (take-append-le kept last after within) ∙ value total s small
 
 -- New nodes between the slots in use: `part` has them in place of the free slots at its end.
 inserted_part : {X : Type 0} (ns made after : List X) (used at missing n : ℕ) → at ≤ used → used + missing ≤ length ns → length made ≡ missing → n ≡ used + missing - at → take (used + missing) (take at ns ++ ((made ++ take (length (take n (drop at ns)) - missing) (take n (drop at ns))) ++ after)) ≡ take at (take used ns) ++ (made ++ drop at (take used ns))

@@ -1,10 +1,12 @@
 -- What a summary's calls come to, from what the functions under them promise.
-use Rattle.std.proofs.Common.{◌≡◌, ℕ, ◌+◌, ◌-◌, ◌<◌, ◌≤◌, true, false, List, length, take, Some, None, Ok, Err, sym, ap, ◌∙◌, subst, ⊎_elim, div-le_self, arith}
-use Rattle.std.proofs.lemmas.List.{length-take-le, take_all}
-use Rattle.std.proofs.lemmas.Bool.{cases_lt}
+use Rattle.std.proofs.Common.{⊎_elim, nat_le, ◌≡◌, ℕ, ◌+◌, ◌-◌, ◌<◌, ◌≤◌, true, false, List, length, Some, None, Option, Ok, Err, sym, ap, ◌∙◌, subst, div-le_self, arith}
+use Rattle.std.proofs.lemmas.List.{length-take-le}
+use Rattle.std.specs.Bool.{then_some}
+use Rattle.std.proofs.lemmas.Bool.{cases_lt, lt-leb, le-leb}
 use Rattle.refusal.specs.declared.Refusal.TheVariants.{KeyNotValid, TotalTooLarge, NoFreeSlot}
 use Rattle.prefix.specs.Meaning.{Meaning}
 use Rattle.model.specs.declared.Node.{Node}
+use Rattle.model.specs.declared.Root.{Root}
 use Rattle.model.specs.State.{state_tree, Tree, State, error, largest_total}
 use Rattle.model.specs.Summary.{names_of, swept_tree, swept, sweep_answer, has_room_for, roomy, counted, settled, added, add_answer, bounds_of, bounds_answer}
 use Rattle.model.specs.Sound.{Formed, SoundTree, Sound}
@@ -14,18 +16,14 @@ use Rattle.model.proofs.Adding.{counted_sound, roomy_sound, settled_sound}
 use Rattle.model.proofs.Calls.{add_not_valid, add_no_weight, add_too_much, add_no_slot, add_counts, room_now, room_swept, roomy_total, roomy_error, room_from, no_room_from, settled_swept, settled_same, bounds_valid, bounds_not_valid}
 use Rattle.table.specs.declared.lookup.Ancestry.{Ancestry}
 use Rattle.table.specs.Ancestors.{Ancestors}
-use Rattle.summary.specs.Room.{FindsRoom}
+use Rattle.summary.specs.declared.counting.Summary.TheInside.{Inside}
+use Rattle.summary.specs.View.{view_of, UsesItsSlots}
+use Rattle.summary.specs.Room.{Fits, FindsRoom}
 
--- as many as there are
-pub take_used : {X : Type 0} (xs : List X) (used : ℕ) → take (length (take used xs)) xs ≡ take used xs
-take_used xs used =
-    ⊎_elim
-    (λ h. ap (λ n. take n xs) (length-take-le used xs (omega arith)))
-    (λ h. take_all (length (take used xs)) xs (omega (arith, ap length (take_all used xs h))) ∙ sym (take_all used xs h))
-    (cases_lt used (length xs))
-
-pub in_use_part : {X : Type 0} (xs ys : List X) (r used : ℕ) → ys ≡ xs → r ≡ length (take used xs) → take r ys ≡ take used xs
-in_use_part xs ys r used e f = cc (take_used xs used)
+-- as many slots are in use as nodes are stored
+pub used_is : {K : Type 0} (i : Inside K) (s : State K) → view_of i ≡ s → UsesItsSlots i → i.used ≡ length s.nodes
+used_is i s seen within =
+    sym (length-take-le i.used i.nodes.now (omega (arith, within))) ∙ ap (λ (t : State _). length t.nodes) seen
 
 module _ {K : Type 0} (m : Meaning K) (s : State K) where
   pub error_small : Sound m s → error s ≤ largest_total
@@ -33,10 +31,12 @@ module _ {K : Type 0} (m : Meaning K) (s : State K) where
 
   -- SWEEP
 
-  pub sweep_defined : (after : State K) (stored : List (Node K)) (e used kept : ℕ) → stored ≡ s.nodes → e ≡ error s → Sweeps s after (used - kept) → used ≡ length s.nodes → kept ≤ used → ((total : ℕ) → SoundTree m total e (record { root = (state_tree s).root; nodes = stored }) → e ≤ largest_total → (state_tree after) ≡ swept_tree m e (record { root = (state_tree s).root; nodes = stored })) → Sound m s → Defined m (sweep_answer m s) (swept m s) (used - kept) after
+  pub sweep_defined : (after : State K) (t : Tree K) (e used kept : ℕ) → t ≡ state_tree s → e ≡ error s → Sweeps s after (used - kept) → used ≡ length s.nodes → kept ≤ used → ((total : ℕ) → SoundTree m total e t → e ≤ largest_total → state_tree after ≡ swept_tree m e t) → Sound m s → Defined m (sweep_answer m s) (swept m s) (used - kept) after
   unfolding swept sweep_answer
-  sweep_defined after stored e used kept same err always us ke value sound =
-      let tree : (state_tree after) ≡ swept_tree m (error s) (state_tree s) = subst (λ x. (state_tree after) ≡ swept_tree m x (state_tree s)) err (subst (λ (ns : List (Node K)). (state_tree after) ≡ swept_tree m e (record { root = (state_tree s).root; nodes = ns })) same (value s.total (subst (λ (ns : List (Node K)). SoundTree m s.total e (record { root = (state_tree s).root; nodes = ns })) (sym same) (subst (λ x. SoundTree m s.total x (state_tree s)) (sym err) sound.tree_sound)) (subst (λ x. x ≤ largest_total) (sym err) (error_small sound)))) in
+  sweep_defined after t e used kept same err always us ke value sound =
+      let of_tree = subst (λ (x : Tree K). (total : ℕ) → SoundTree m total e x → e ≤ largest_total → state_tree after ≡ swept_tree m e x) same value in
+      let of_error = subst (λ x. (total : ℕ) → SoundTree m total x (state_tree s) → x ≤ largest_total → state_tree after ≡ swept_tree m x (state_tree s)) err of_tree in
+      let tree : (state_tree after) ≡ swept_tree m (error s) (state_tree s) = of_error s.total sound.tree_sound (error_small sound) in
       let w = always.table.width_same in
       let sh = always.table.share_same in
       let sl = always.table.slots_same in
@@ -51,38 +51,31 @@ module _ {K : Type 0} (m : Meaning K) (s : State K) where
 
   -- ROOM
 
-  pub room_at_once : (k : K) (a : Ancestry) (after : State K) (free : ℕ) → after ≡ s → (Formed (names_of m s.nodes) → Ancestors m s.nodes k (state_tree s).root a) → free ≡ s.slots - length s.nodes → a.missing ≤ free → Sound m s → FindsRoom m s k after (Some a)
-  room_at_once k a after free same known size fits sound =
-      let a-known = known sound.tree_sound.formed in
-      let room = room_from m s k (omega (arith, a-known.missing_is)) in
+  -- what a climb among the stored nodes finds
+  pub known_here : (k : K) (a : Ancestry) (stored : List (Node K)) (root : Root) → stored ≡ s.nodes → root.ceiling ≡ s.root_ceiling → (Formed (names_of m stored) → (r : Root) → r.ceiling ≡ root.ceiling → Ancestors m stored k r a) → Formed (names_of m s.nodes) → Ancestors m s.nodes k (state_tree s).root a
+  known_here k a stored root same ceiling known =
+      let here = subst (λ (ns : List (Node K)). Formed (names_of m ns) → (r : Root) → r.ceiling ≡ root.ceiling → Ancestors m ns k r a) same known in
+      λ f. here f (state_tree s).root (sym ceiling)
+
+  pub fits : (k : K) (a : Ancestry) (free : ℕ) → free ≡ s.slots - length s.nodes → Ancestors m s.nodes k (state_tree s).root a → Fits m s k (then_some (nat_le a.missing free) a)
+  fits k a free size known =
+      ⊎_elim
+      (λ full. subst (λ b. Fits m s k (then_some b a)) (sym (lt-leb a.missing free full)) (no_room_from m s k (omega (arith, known.missing_is))))
+      (λ enough. subst (λ b. Fits m s k (then_some b a)) (sym (le-leb a.missing free enough)) (room_from m s k (omega (arith, known.missing_is)), known))
+      (cases_lt free a.missing)
+
+  pub room_at_once : (k : K) (a : Ancestry) → (Formed (names_of m s.nodes) → Fits m s k (Some a)) → Sound m s → FindsRoom m s k s (Some a)
+  room_at_once k a known sound =
+      let fits = known sound.tree_sound.formed in
+      record { state_is = sym (room_now m s k fits.0); answer_is = fits }
+
+  pub room_after_sweep : (k : K) (r : Option Ancestry) (after : State K) (folded : ℕ) → (Formed (names_of m s.nodes) → Fits m s k None) → (Sound m s → Defined m (sweep_answer m s) (swept m s) folded after) → (Formed (names_of m after.nodes) → Fits m after k r) → Sound m s → FindsRoom m s k after r
+  room_after_sweep k r after folded full sweep known sound =
+      let swept_is = sweep sound in
       record {
-        state_is = same ∙ sym (room_now m s k room);
-        answer_is = subst (λ (t : State K). (has_room_for m t k ≡ true) × Ancestors m t.nodes k (state_tree t).root a) (sym same) (room, a-known);
+        state_is = swept_is.state_is ∙ sym (room_swept m s k (full sound.tree_sound.formed));
+        answer_is = known swept_is.stays_sound.tree_sound.formed;
       }
-
-  -- the first search was in vain, and a sweep ran
-  module _ (k : K) (a b : Ancestry) (mid after : State K) (free free' r : ℕ) (known : Formed (names_of m s.nodes) → Ancestors m s.nodes k (state_tree s).root a) (size : free ≡ s.slots - length s.nodes) (full : free < a.missing) (sweep : Sound m s → Defined m (sweep_answer m s) (swept m s) r mid) (known' : Formed (names_of m mid.nodes) → Ancestors m mid.nodes k (state_tree mid).root b) (size' : free' ≡ mid.slots - length mid.nodes) (same : after ≡ mid) where
-    swept_for_room : Sound m s → after ≡ roomy m s k
-    swept_for_room sound =
-        let a-known = known sound.tree_sound.formed in
-        same ∙ (sweep sound).state_is ∙ sym (room_swept m s k (no_room_from m s k (omega (arith, a-known.missing_is))))
-
-    pub room_after_sweep : b.missing ≤ free' → Sound m s → FindsRoom m s k after (Some b)
-    room_after_sweep fits sound =
-        let b-known = known' (sweep sound).stays_sound.tree_sound.formed in
-        let room = room_from m mid k (omega (arith, b-known.missing_is)) in
-        record {
-          state_is = swept_for_room sound;
-          answer_is = subst (λ (t : State K). (has_room_for m t k ≡ true) × Ancestors m t.nodes k (state_tree t).root b) (sym same) (room, b-known);
-        }
-
-    pub no_room_after_sweep : free' < b.missing → Sound m s → FindsRoom m s k after None
-    no_room_after_sweep full' sound =
-        let b-known = known' (sweep sound).stays_sound.tree_sound.formed in
-        record {
-          state_is = swept_for_room sound;
-          answer_is = subst (λ (t : State K). has_room_for m t k ≡ false) (sym same) (no_room_from m mid k (omega (arith, b-known.missing_is)));
-        }
 
   -- ADD
 
@@ -97,10 +90,11 @@ module _ {K : Type 0} (m : Meaning K) (s : State K) where
           let h = add_not_valid m s k w v in
           let g = as_it_was h.1 sound in record { answer_is = sym h.0; state_is = g.0; stays_sound = g.1 }
 
-      pub add_without_weight : m.is_valid k ≡ true → w ≡ 0 → Sound m s → Defined m (add_answer m s k w) (added m s k w) (Ok s.total) after
-      add_without_weight v z sound =
+      pub add_without_weight : (total : ℕ) → total ≡ s.total → m.is_valid k ≡ true → w ≡ 0 → Sound m s → Defined m (add_answer m s k w) (added m s k w) (Ok total) after
+      add_without_weight total same_total v z sound =
           let h = add_no_weight m s k w v z in
-          let g = as_it_was h.1 sound in record { answer_is = sym h.0; state_is = g.0; stays_sound = g.1 }
+          let g = as_it_was h.1 sound in
+          record { answer_is = ap (λ (n : ℕ). Ok n) same_total ∙ sym h.0; state_is = g.0; stays_sound = g.1 }
 
       pub add_total_refused : m.is_valid k ≡ true → 0 < w → largest_total < s.total + w → Sound m s → Defined m (add_answer m s k w) (added m s k w) (Err TotalTooLarge) after
       add_total_refused v p l sound =
@@ -143,9 +137,9 @@ module _ {K : Type 0} (m : Meaning K) (s : State K) where
     bounds_refused v sound =
         record { answer_is = sym (bounds_not_valid m s k v); state_is = same; stays_sound = subst (Sound m) (sym same) sound }
 
-    pub bounds_answered : (stored : List (Node K)) (r : ℕ × ℕ) → stored ≡ s.nodes → m.is_valid k ≡ true → ((total e : ℕ) → SoundTree m total e (record { root = (state_tree s).root; nodes = stored }) → e ≤ largest_total → r ≡ bounds_of m (record { root = (state_tree s).root; nodes = stored }) (m.name_of k)) → Sound m s → Defined m (bounds_answer m s k) s (Ok (r.0, r.1)) after
-    bounds_answered stored r part v value sound =
-        let is : r ≡ bounds_of m (state_tree s) (m.name_of k) = subst (λ (ns : List (Node K)). (total e : ℕ) → SoundTree m total e (record { root = (state_tree s).root; nodes = ns }) → e ≤ largest_total → r ≡ bounds_of m (record { root = (state_tree s).root; nodes = ns }) (m.name_of k)) part value s.total (error s) sound.tree_sound (error_small sound) in
+    pub bounds_answered : (t : Tree K) (r : ℕ × ℕ) → t ≡ state_tree s → m.is_valid k ≡ true → ((total e : ℕ) → SoundTree m total e t → e ≤ largest_total → r ≡ bounds_of m t (m.name_of k)) → Sound m s → Defined m (bounds_answer m s k) s (Ok (r.0, r.1)) after
+    bounds_answered t r tree v value sound =
+        let is : r ≡ bounds_of m (state_tree s) (m.name_of k) = subst (λ (x : Tree K). (total e : ℕ) → SoundTree m total e x → e ≤ largest_total → r ≡ bounds_of m x (m.name_of k)) tree value s.total (error s) sound.tree_sound (error_small sound) in
         record {
           answer_is = ap (λ (x : ℕ × ℕ). Ok x) is ∙ sym (bounds_valid m s k v);
           state_is = same;

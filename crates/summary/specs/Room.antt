@@ -11,11 +11,15 @@ pub record HasRoom {K : Type 0} (s : State K) (a : Ancestry) : Type 0 where
   pub nearest_stored : IfSome a.nearest (λ i. i < length s.nodes)
   pub slots_enough : a.missing ≤ s.slots - length s.nodes
 
--- a sweep runs if need be; then there is room for the missing names, and they are known, or there is none
+-- there is room for the missing names, and they are known, or there is none
+abbrev pub Fits : {K : Type 0} → Meaning K → State K → K → Option Ancestry → Type 0
+Fits m s key r =
+    MatchOption r (has_room_for m s key ≡ false) (λ a. (has_room_for m s key ≡ true) × Ancestors m s.nodes key (state_tree s).root a)
+
+-- a sweep runs if need be
 pub record FindsRoom {K : Type 0} (m : Meaning K) (before : State K) (key : K) (after : State K) (r : Option Ancestry) : Type 0 where
   pub state_is : after ≡ roomy m before key
-  pub answer_is :
-      MatchOption r (has_room_for m after key ≡ false) (λ a. (has_room_for m after key ≡ true) × Ancestors m after.nodes key (state_tree after).root a)
+  pub answer_is : Fits m after key r
 
 -- where the key's own node stands once the missing ones are made; none for the root
 abbrev pub own_slot : Ancestry → Option ℕ

@@ -1,5 +1,5 @@
-// A counting summary: opening it over a table, adding weights, sweeping, and the bounds of a prefix. The methods read
-// the fields, hand the table to functions over slices, and store what comes back.
+// A counting summary: opening it over a table, adding weights, sweeping, and the bounds of a prefix. To a contract a summary
+// is the state that it holds; which slots of the table are in use is known here alone.
 ghost use Rattle.std.specs.Prelude.{◌≡◌, ◌+◌, ◌-◌, ◌^◌, ◌<◌, ◌≤◌, min, true, length, IfSome};
 ghost use Rattle.model.specs.State.{state_tree, opened, error as error_of, most_slots, largest_total};
 ghost use Rattle.prefix.specs.Meaning.{Meaning};
@@ -7,16 +7,16 @@ ghost use Rattle.model.specs.Summary.{names_of, counted, settled};
 ghost use Rattle.model.specs.Sound.{Formed, Sound};
 ghost use Rattle.model.specs.Answers.{AddsAsDefined, SweepsAsDefined, BoundsAsDefined, SameTable, Adds, Sweeps, Bounds};
 ghost use Rattle.table.specs.Ancestors.{Ancestors};
-ghost use Rattle.summary.specs.Room.{HasRoom, FindsRoom, own_slot};
-ghost use Rattle.summary.specs.View.{view};
+ghost use Rattle.summary.specs.Room.{HasRoom, Fits, FindsRoom, own_slot};
 
-use super::slots::{bounds_in, climb_in, count_in_use, insert_in, next_in, raise_own, sweep_in};
-use figures::{Row, Threshold};
+use super::slots::{insert_in, raise_own, sweep_in};
+use figures::{Row, Threshold, bounds_of, next_row};
 use model::{Node, Root};
 use prefix::{Hierarchy, OrderedHierarchy};
 use refusal::Refusal;
 use settings::Settings;
-use table::Ancestry;
+use std::marker::Model;
+use table::{Ancestry, climb};
 
 // No summary uses more slots of its table than this.
 const MOST_SLOTS: usize = 4096;
@@ -25,7 +25,7 @@ const MOST_SLOTS: usize = 4096;
 const LARGEST_TOTAL: u64 = 281_474_976_710_655;
 
 // The slot of the key's own node once the missing ones are made: the last of those, or else the nearest, which is the
-// key's own. None for the root.
+// key's own. None for the root. A place and no reference, since the nodes are lent from a table.
 fn own_slot(ancestry: Ancestry) -> Option<usize>
     requires { ancestry.at + ancestry.missing < 2 ^ 64 }
     ensures { result ≡ own_slot ancestry }
@@ -46,11 +46,23 @@ pub struct Summary<'a, K: Copy> {
     root: Root,
 }
 
+impl<'a, K: Copy> Model for Summary<'a, K> {
+    ghost use Rattle.model.specs.State.{State};
+
+    ghost Value = { State K };
+
+    ghost use Rattle.summary.specs.View.{view_of, UsesItsSlots};
+
+    ghost view = { view_of };
+
+    ghost invariant = { UsesItsSlots };
+}
+
 impl<'a, K: Copy> Summary<'a, K> {
     // A summary that has counted nothing, over a table that the caller lends.
     pub fn open(settings: Settings, nodes: &'a mut [Node<K>]) -> Summary<'a, K>
-        ensures state { view result ≡ opened settings.width settings.share (min most_slots (length nodes.old)) }
-        ensures sound { (m : Meaning K) → Sound m (view result) }
+        ensures state { result ≡ opened settings.width settings.share (min most_slots (length nodes.old)) }
+        ensures sound { (m : Meaning K) → Sound m result }
     {
         Summary {
             nodes,
@@ -62,83 +74,69 @@ impl<'a, K: Copy> Summary<'a, K> {
     }
 
     pub fn total(&self) -> u64
-        ensures { result ≡ (view self.now).total }
+        ensures { result ≡ self.now.total }
     {
-        let Summary { total, .. } = self;
-        *total
+        self.total
     }
 
     // What the bounds of a prefix are apart at most: the total over the width, rounded down.
     pub fn error(&self) -> u64
-        ensures { result ≡ error_of (view self.now) }
+        ensures { result ≡ error_of self.now }
     {
         self.total / u64::from(self.settings.width())
     }
 
-    // How many slots of the table are in use.
-    fn in_use(&mut self) -> usize
-        ensures same { self.new ≡ self.old }
-        ensures value { result ≡ length (view self.old).nodes }
-        ensures bound { result ≤ length self.old.nodes.now }
+    // The nodes in use.
+    fn stored(&self) -> &[Node<K>]
+        ensures { result.now ≡ self.now.nodes }
     {
-        let used = self.used;
-        count_in_use(self.nodes, used)
+        &self.nodes[..self.used]
+    }
+
+    // How many slots are free.
+    fn free(&self) -> usize
+        ensures { result ≡ self.now.slots - length self.now.nodes }
+    {
+        self.nodes.len().min(MOST_SLOTS) - self.used
     }
 
     // Folds the light nodes into their parents, the deepest level first; answers how many.
     pub fn sweep<H: OrderedHierarchy<Key = K>>(&mut self, hierarchy: &H) -> usize
-        ensures defined { SweepsAsDefined (H.Hierarchy.means hierarchy.now) (view self.old) (view self.new) result }
-        ensures always { Sweeps (view self.old) (view self.new) result }
+        ensures defined { SweepsAsDefined (H.Hierarchy.means hierarchy.now) self.old self.new result }
+        ensures always { Sweeps self.old self.new result }
     {
         let error = self.error();
         let root = self.root;
-        let used = self.in_use();
+        let used = self.used;
         let swept = sweep_in(hierarchy, self.nodes, used, root, error);
         self.used = swept.kept;
         self.root = swept.root;
         used - swept.kept
     }
 
-    // The key's name and its ancestors' in the table as it is now.
-    fn ancestry<H: OrderedHierarchy<Key = K>>(&mut self, hierarchy: &H, key: K) -> Ancestry
-        ensures same { view self.new ≡ view self.old }
-        ensures at { result.at ≤ length (view self.old).nodes }
-        ensures nearest { IfSome result.nearest (λ i. i < length (view self.old).nodes) }
-        ensures formed { Formed (names_of (H.Hierarchy.means hierarchy.now) (view self.old).nodes) → Ancestors (H.Hierarchy.means hierarchy.now) (view self.old).nodes key (state_tree (view self.old)).root result }
+    // The missing names of a key, if they do not outnumber the free slots.
+    fn fitting<H: OrderedHierarchy<Key = K>>(&self, hierarchy: &H, key: K) -> Option<Ancestry>
+        ensures formed { Formed (names_of (H.Hierarchy.means hierarchy.now) self.now.nodes) → Fits (H.Hierarchy.means hierarchy.now) self.now key result }
+        ensures fits { IfSome result (λ a. HasRoom self.now a) }
     {
-        let root = self.root;
-        let used = self.in_use();
-        climb_in(hierarchy, self.nodes, used, key, root)
-    }
-
-    // How many slots are free.
-    fn free(&mut self) -> usize
-        ensures same { view self.new ≡ view self.old }
-        ensures value { result ≡ (view self.old).slots - length (view self.old).nodes }
-    {
-        let used = self.in_use();
-        self.nodes.len().min(MOST_SLOTS).saturating_sub(used)
+        let ancestry = climb(hierarchy, self.stored(), key, self.root.ceiling);
+        (ancestry.missing <= self.free()).then_some(ancestry)
     }
 
     // The missing names of a key for which there are slots enough, after a sweep if need be; the sweep may fold an
-    // ancestor, so they are counted anew after it.
+    // ancestor, so they are counted anew after it. Here and below, that the table stays the same is a fact about two states,
+    // so it stands in the clauses and in no type.
     fn find_room<H: OrderedHierarchy<Key = K>>(&mut self, hierarchy: &H, key: K) -> Option<Ancestry>
-        ensures defined { Sound (H.Hierarchy.means hierarchy.now) (view self.old) → FindsRoom (H.Hierarchy.means hierarchy.now) (view self.old) key (view self.new) result }
-        ensures table { SameTable (view self.old) (view self.new) }
-        ensures total { (view self.new).total ≡ (view self.old).total }
-        ensures fits { IfSome result (λ a. HasRoom (view self.new) a) }
+        ensures defined { Sound (H.Hierarchy.means hierarchy.now) self.old → FindsRoom (H.Hierarchy.means hierarchy.now) self.old key self.new result }
+        ensures table { SameTable self.old self.new }
+        ensures total { self.new.total ≡ self.old.total }
+        ensures fits { IfSome result (λ a. HasRoom self.new a) }
     {
-        let ancestry = self.ancestry(hierarchy, key);
-        if ancestry.missing <= self.free() {
+        if let Some(ancestry) = self.fitting(hierarchy, key) {
             return Some(ancestry);
         }
         self.sweep(hierarchy);
-        let ancestry = self.ancestry(hierarchy, key);
-        if ancestry.missing <= self.free() {
-            Some(ancestry)
-        } else {
-            None
-        }
+        self.fitting(hierarchy, key)
     }
 
     // Makes the missing nodes, and counts the weight at the key's node or at the root.
@@ -150,12 +148,12 @@ impl<'a, K: Copy> Summary<'a, K> {
         total: u64,
         ancestry: Ancestry,
     )
-        requires { HasRoom (view self.old) ancestry }
-        ensures defined { Sound (H.Hierarchy.means hierarchy.now) (view self.old) → Ancestors (H.Hierarchy.means hierarchy.now) (view self.old).nodes key (state_tree (view self.old)).root ancestry → (H.Hierarchy.means hierarchy.now).is_valid key ≡ true → 0 < weight → total ≡ (view self.old).total + weight → total ≤ largest_total → view self.new ≡ counted (H.Hierarchy.means hierarchy.now) (view self.old) key weight }
-        ensures table { SameTable (view self.old) (view self.new) }
-        ensures total { (view self.new).total ≡ total }
+        requires { HasRoom self.old ancestry }
+        ensures defined { Sound (H.Hierarchy.means hierarchy.now) self.old → Ancestors (H.Hierarchy.means hierarchy.now) self.old.nodes key (state_tree self.old).root ancestry → (H.Hierarchy.means hierarchy.now).is_valid key ≡ true → 0 < weight → total ≡ self.old.total + weight → total ≤ largest_total → self.new ≡ counted (H.Hierarchy.means hierarchy.now) self.old key weight }
+        ensures table { SameTable self.old self.new }
+        ensures total { self.new.total ≡ total }
     {
-        let used = self.in_use();
+        let used = self.used;
         insert_in(hierarchy, self.nodes, used, key, ancestry);
         self.used = used + ancestry.missing;
         self.total = total;
@@ -167,9 +165,9 @@ impl<'a, K: Copy> Summary<'a, K> {
 
     // Sweeps if the error has grown.
     fn settle<H: OrderedHierarchy<Key = K>>(&mut self, hierarchy: &H, error: u64)
-        ensures defined { Sound (H.Hierarchy.means hierarchy.now) (view self.old) → view self.new ≡ settled (H.Hierarchy.means hierarchy.now) error (view self.old) }
-        ensures table { SameTable (view self.old) (view self.new) }
-        ensures total { (view self.new).total ≡ (view self.old).total }
+        ensures defined { Sound (H.Hierarchy.means hierarchy.now) self.old → self.new ≡ settled (H.Hierarchy.means hierarchy.now) error self.old }
+        ensures table { SameTable self.old self.new }
+        ensures total { self.new.total ≡ self.old.total }
     {
         if self.error() > error {
             self.sweep(hierarchy);
@@ -183,8 +181,8 @@ impl<'a, K: Copy> Summary<'a, K> {
         key: K,
         weight: u32,
     ) -> Result<u64, Refusal>
-        ensures defined { AddsAsDefined (H.Hierarchy.means hierarchy.now) (view self.old) key weight (view self.new) result }
-        ensures always { Adds (H.Hierarchy.means hierarchy.now) (view self.old) key weight (view self.new) result }
+        ensures defined { AddsAsDefined (H.Hierarchy.means hierarchy.now) self.old key weight self.new result }
+        ensures always { Adds (H.Hierarchy.means hierarchy.now) self.old key weight self.new result }
     {
         if !hierarchy.is_valid(key) {
             return Err(Refusal::KeyNotValid);
@@ -206,28 +204,27 @@ impl<'a, K: Copy> Summary<'a, K> {
         Ok(total)
     }
 
-    // The lower and the upper bound of a prefix's true count.
+    // The lower and the upper bound of a prefix's true count. The project asks for `&mut self`, so a clause says that the state
+    // is as it was.
     pub fn bounds<H: OrderedHierarchy<Key = K>>(
         &mut self,
         hierarchy: &H,
         key: K,
     ) -> Result<(u64, u64), Refusal>
-        ensures defined { BoundsAsDefined (H.Hierarchy.means hierarchy.now) (view self.old) key (view self.new) result }
-        ensures same { view self.new ≡ view self.old }
+        ensures defined { BoundsAsDefined (H.Hierarchy.means hierarchy.now) self.old key self.new result }
+        ensures same { self.new ≡ self.old }
         ensures cases { Bounds (H.Hierarchy.means hierarchy.now) key result }
     {
         if !hierarchy.is_valid(key) {
             return Err(Refusal::KeyNotValid);
         }
-        let root = self.root;
-        let used = self.in_use();
-        let (lower, upper) = bounds_in(hierarchy, self.nodes, used, root, key);
+        let (lower, upper) = bounds_of(hierarchy, self.stored(), self.root, key);
         Ok((lower, upper))
     }
 
     // When a prefix of this summary is heavy: by the share of its own total.
     fn threshold(&self) -> Threshold
-        ensures { result ≡ record { share = (view self.now).share; total = (view self.now).total } }
+        ensures { result ≡ record { share = self.now.share; total = self.now.total } }
     {
         Threshold {
             share: self.settings.share(),
@@ -237,16 +234,10 @@ impl<'a, K: Copy> Summary<'a, K> {
 
     // For an open listing: the first row of all, or the first after a key.
     pub(crate) fn next_row<H: OrderedHierarchy<Key = K>>(
-        &mut self,
+        &self,
         hierarchy: &H,
         after: Option<K>,
-    ) -> Option<Row<K>>
-        ensures same { view self.new ≡ view self.old }
-        ensures low { IfSome result (λ row. row.lower ≤ row.upper) }
-    {
-        let threshold = self.threshold();
-        let root = self.root;
-        let used = self.in_use();
-        next_in(hierarchy, self.nodes, used, root, after, threshold)
+    ) -> Option<Row<K>> {
+        next_row(hierarchy, self.stored(), self.root, after, self.threshold())
     }
 }

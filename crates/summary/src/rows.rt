@@ -3,12 +3,12 @@
 // counted while rows are read, and no rows are read while counting goes on.
 ghost use Rattle.std.specs.Prelude.{◌≡◌, ◌≤◌, IfSome, IfOk};
 ghost use Rattle.model.specs.Answers.{Bounds, RowsAfter};
-ghost use Rattle.summary.specs.View.{view};
 
 use super::counting::Summary;
 use figures::Row;
 use prefix::{Hierarchy, OrderedHierarchy};
 use refusal::Refusal;
+use std::marker::Model;
 
 // A summary whose rows are read; it counts again once the listing is closed.
 #[derive(Drop)]
@@ -16,16 +16,26 @@ pub struct Listing<'a, K: Copy> {
     summary: Summary<'a, K>,
 }
 
+// To a contract a listing is the state of its summary.
+impl<'a, K: Copy> Model for Listing<'a, K> {
+    ghost use Rattle.model.specs.State.{State};
+
+    ghost Value = { State K };
+
+    ghost view = { λ listing. listing.summary };
+}
+
+// The questions take `&mut self`, as the project asks of bounds, so each says in a clause that nothing changes.
 impl<'a, K: Copy> Listing<'a, K> {
     pub fn open(summary: Summary<'a, K>) -> Listing<'a, K>
-        ensures { view result.summary ≡ view summary.entry }
+        ensures { result ≡ summary.entry }
     {
         Self { summary }
     }
 
     // The counting summary, node for node as it was.
     pub fn close(self) -> Summary<'a, K>
-        ensures { view result ≡ view self.entry.summary }
+        ensures { result ≡ self.entry }
     {
         let Listing { summary } = self;
         summary
@@ -33,8 +43,7 @@ impl<'a, K: Copy> Listing<'a, K> {
 
     // The row of the listed prefix whose name comes before all others; none where nothing is listed.
     pub fn first<H: OrderedHierarchy<Key = K>>(&mut self, hierarchy: &H) -> Option<Row<K>>
-        ensures same { view self.new.summary ≡ view self.old.summary }
-        ensures low { IfSome result (λ row. row.lower ≤ row.upper) }
+        ensures { self.new ≡ self.old }
     {
         self.summary.next_row(hierarchy, None)
     }
@@ -45,9 +54,8 @@ impl<'a, K: Copy> Listing<'a, K> {
         hierarchy: &H,
         key: K,
     ) -> Result<Option<Row<K>>, Refusal>
-        ensures same { view self.new.summary ≡ view self.old.summary }
+        ensures same { self.new ≡ self.old }
         ensures cases { RowsAfter (H.Hierarchy.means hierarchy.now) key result }
-        ensures low { IfOk result (λ next. IfSome next (λ row. row.lower ≤ row.upper)) }
     {
         if !hierarchy.is_valid(key) {
             return Err(Refusal::KeyNotValid);
@@ -61,7 +69,7 @@ impl<'a, K: Copy> Listing<'a, K> {
         hierarchy: &H,
         key: K,
     ) -> Result<(u64, u64), Refusal>
-        ensures same { view self.new.summary ≡ view self.old.summary }
+        ensures same { self.new ≡ self.old }
         ensures cases { Bounds (H.Hierarchy.means hierarchy.now) key result }
     {
         self.summary.bounds(hierarchy, key)

@@ -1,16 +1,13 @@
 -- A run worked out by hand: the definitions compute to it.
-use Rattle.std.specs.Prelude.{◌≡◌, ℕ, ◌+◌, ◌*◌, List, [], ◌∷◌, Some, None, Ok, Err, Result}
+use Rattle.std.specs.Prelude.{◌≡◌, ℕ, List, [], ◌∷◌, Some, None, Ok, Err, Result}
 use Rattle.refusal.specs.declared.Refusal.{Refusal}
 use Rattle.refusal.specs.declared.Refusal.TheVariants.{WidthOutOfRange, ShareTooSmall, NoFreeSlot}
 use Rattle.settings.specs.Rules.{settings_refusal}
 use Rattle.octets.specs.declared.AddressPrefix.{AddressPrefix}
+use Rattle.octets.specs.Octets.{net}
 use Rattle.octets.specs.Meaning.{octet_meaning}
 use Rattle.model.specs.State.{State, state_tree, opened}
 use Rattle.model.specs.Summary.{added, add_answer, bounds_answer}
-
--- a.b.c.d/length
-abbrev pub net : ℕ → ℕ → ℕ → ℕ → ℕ → AddressPrefix
-net a b c d n = record { address = ((a * 256 + b) * 256 + c) * 256 + d; length = n }
 
 -- the state after some adds
 abbrev pub after : State AddressPrefix → List (AddressPrefix × ℕ) → State AddressPrefix

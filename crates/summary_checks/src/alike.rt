@@ -1,8 +1,9 @@
 // A long run through the summary and through the second one, which agree figure for figure.
 use super::plain::{Plain, SLOTS, cut};
-use super::steps::{VACANT, check_slot, slot};
+use super::steps::vacant;
 use model::Node;
 use octets::{AddressPrefix, Octets};
+use prefix::Hierarchy;
 use settings::Settings;
 use std::process::Abort;
 use std::test::Fail;
@@ -18,7 +19,7 @@ fn scrambled(step: u64) -> u64 {
     mixed ^ (mixed >> 31)
 }
 
-// A key and a weight. The octets have few values, so that prefixes meet; now and then a key is short or not valid, and a
+// A key and a weight; what is matched chooses a value and no step to run. The octets have few values, so that prefixes meet; now and then a key is short or not valid, and a
 // weight is 0 or heavy.
 fn record(draw: u64) -> (AddressPrefix, u32) {
     let [first, second, third, fourth, kind, size, weight, _] = draw.to_be_bytes();
@@ -47,6 +48,8 @@ fn record(draw: u64) -> (AddressPrefix, u32) {
     }
 }
 
+// The two summaries stand side by side here and below, since they are what is compared.
+//
 // Counts one record in both: the answer, the total, the error and the bounds of its key agree, stored or not and valid
 // or not.
 fn count_in_both(
@@ -73,10 +76,8 @@ fn count_in_both(
 
 // The bounds of every prefix that is stored, and then a sweep.
 fn sweep_both(rt: &impl Abort, summary: &mut Summary<'_, AddressPrefix>, plain: &mut Plain) {
-    for place in plain.places.iter() {
-        if let Some(node) = place {
-            assert_eq!(rt; summary.bounds(&Octets, node.key), plain.bounds(node.key));
-        }
+    for node in plain.places.iter().flatten() {
+        assert_eq!(rt; summary.bounds(&Octets, node.key), plain.bounds(node.key));
     }
     assert_eq!(rt; summary.sweep(&Octets), plain.sweep());
 }
@@ -93,19 +94,18 @@ fn run_both(rt: &impl Abort, summary: &mut Summary<'_, AddressPrefix>, plain: &m
 // The first slots of a table against the nodes of the second summary. They are as many, and in name order: by address,
 // and the shorter first at one address. So each node is met once.
 fn check_nodes(rt: &impl Abort, nodes: &[Node<AddressPrefix>], plain: &Plain) {
-    let mut last = 0u64;
+    let mut last = Octets.root();
     for node in nodes.iter().take(plain.stored()) {
-        let name = u64::from(node.key.address) << 8 | u64::from(node.key.length);
-        assert!(rt; last < name);
-        check_slot(rt, node, slot(&plain.nearest(node.key)));
-        last = name;
+        assert!(rt; last < node.key);
+        assert_eq!(rt; *node, plain.nearest(node.key));
+        last = node.key;
     }
 }
 
 // The run would show little if no node were ever folded and no host refused for want of slots.
 #[test]
 fn a_long_run_agrees_with_the_plain_summary(rt: HostRuntime) -> Result<(), Fail> {
-    let mut nodes = [VACANT; SLOTS];
+    let mut nodes = [vacant(); SLOTS];
     let mut plain = Plain::open(WIDTH);
     let mut summary = Summary::open(Settings::new(WIDTH, 200)?, &mut nodes);
     run_both(&rt, &mut summary, &mut plain);

@@ -1,15 +1,13 @@
 // Both sides of the edges of settings and of the total.
 use super::steps::Step::{Add, Bounds, Repeat};
-use super::steps::{LARGEST_TOTAL, VACANT, run};
+use super::steps::{LARGEST_TOTAL, run, vacant};
+use refusal::Refusal;
 use settings::Settings;
 use std::test::Fail;
 
-// The number of the refusal; none where the settings are accepted.
+// The number of the refusal, by which an operator reads it; none where the settings are accepted.
 fn refused_settings(width: u32, share: u32) -> Option<u8> {
-    match Settings::new(width, share) {
-        Ok(_) => None,
-        Err(refusal) => Some(refusal.number()),
-    }
+    Settings::new(width, share).err().map(Refusal::number)
 }
 
 // Ten parts of 100 thousandths each are all of the total, so the share would be no larger than the error.
@@ -26,7 +24,7 @@ fn a_share_no_larger_than_the_error_is_refused(rt: HostRuntime) {
 fn the_largest_total_is_reached_and_never_passed(rt: HostRuntime) -> Result<(), Fail> {
     run(
         &rt,
-        &mut [VACANT; 4],
+        &mut [vacant(); 4],
         &[
             Repeat(([10, 1, 1, 1], 32), u32::MAX, 65_536),
             Add(([10, 1, 1, 1], 32), 65_535, Ok(LARGEST_TOTAL)),

@@ -12,6 +12,9 @@ pub(crate) const SLOTS: usize = 32;
 // The root takes no slot.
 const PLACES: usize = SLOTS + 1;
 
+// The lengths of the names without the root's, from the top down.
+const LENGTHS: [u8; 4] = [8, 16, 24, 32];
+
 const ROOT: AddressPrefix = AddressPrefix {
     address: 0,
     length: 0,
@@ -28,10 +31,16 @@ pub(crate) fn cut(key: AddressPrefix, length: u8) -> AddressPrefix {
     }
 }
 
+// Whether the key is the upper one or lies beneath it.
+fn lies_beneath(key: AddressPrefix, upper: AddressPrefix) -> bool {
+    cut(key, upper.length) == upper
+}
+
 fn is_valid(key: AddressPrefix) -> bool {
     key.length <= 32 && key.length % 8 == 0 && cut(key, key.length) == key
 }
 
+// The places are an array of fixed size, as the table of a summary has a fixed number of slots.
 #[derive(Drop)]
 pub(crate) struct Plain {
     pub places: [Option<Node<AddressPrefix>>; PLACES],
@@ -62,37 +71,36 @@ impl Plain {
 
     // The deepest stored node at or above a key.
     pub(crate) fn nearest(&self, key: AddressPrefix) -> Node<AddressPrefix> {
-        let mut nearest = Node::vacant(ROOT);
-        for place in self.places.iter() {
-            if let Some(node) = place
-                && cut(key, node.key.length) == node.key
-                && node.key.length >= nearest.key.length
-            {
-                nearest = *node;
-            }
-        }
-        nearest
+        self.places
+            .iter()
+            .flatten()
+            .copied()
+            .filter(|node| lies_beneath(key, node.key))
+            .max_by_key(|node| node.key.length)
+            .unwrap_or(Node::vacant(ROOT))
     }
 
-    // How many nodes are stored at and beneath a key, and the sum of their own counts.
-    fn beneath(&self, key: AddressPrefix) -> (usize, u64) {
-        let mut stored = 0usize;
-        let mut sum = 0u64;
-        for place in self.places.iter() {
-            if let Some(node) = place
-                && cut(node.key, key.length) == key
-            {
-                stored = stored.saturating_add(1);
-                sum = sum.saturating_add(node.own);
-            }
-        }
-        (stored, sum)
+    // How many nodes are stored at and beneath a key.
+    fn stored_beneath(&self, key: AddressPrefix) -> usize {
+        self.places
+            .iter()
+            .flatten()
+            .filter(|node| lies_beneath(node.key, key))
+            .count()
+    }
+
+    // The sum of the own counts at and beneath a key.
+    fn count_beneath(&self, key: AddressPrefix) -> u64 {
+        self.places
+            .iter()
+            .flatten()
+            .filter(|node| lies_beneath(node.key, key))
+            .fold(0, |sum: u64, node| sum.saturating_add(node.own))
     }
 
     // How many slots are in use.
     pub(crate) fn stored(&self) -> usize {
-        let (stored, _) = self.beneath(ROOT);
-        stored.saturating_sub(1)
+        self.stored_beneath(ROOT).saturating_sub(1)
     }
 
     pub(crate) fn bounds(&self, key: AddressPrefix) -> Result<(u64, u64), Refusal> {
@@ -101,7 +109,7 @@ impl Plain {
         }
         let nearest = self.nearest(key);
         if nearest.key == key {
-            let (_, lower) = self.beneath(key);
+            let lower = self.count_beneath(key);
             Ok((lower, lower.saturating_add(nearest.slack)))
         } else {
             Ok((0, nearest.ceiling))
@@ -110,24 +118,21 @@ impl Plain {
 
     // Whether the missing names of a key and its ancestors are no more than the free slots.
     fn has_room(&self, key: AddressPrefix) -> bool {
-        let mut missing = 0usize;
-        for length in [8u8, 16, 24, 32] {
-            let name = cut(key, length);
-            if name.length == length && self.nearest(name).key != name {
-                missing = missing.saturating_add(1);
-            }
-        }
+        let missing = LENGTHS
+            .iter()
+            .filter(|length| {
+                let name = cut(key, **length);
+                name.length == **length && self.nearest(name).key != name
+            })
+            .count();
         missing <= SLOTS.saturating_sub(self.stored())
     }
 
-    // Puts a node, or none, where the node of a key is, or where there is none.
+    // Puts a node, or none, where the node of a key is, or where there is none. A loop: after `iter_mut().find(..)` the proof
+    // does not know that the place that was found is one of these.
     fn put(&mut self, old: Option<AddressPrefix>, new: Option<Node<AddressPrefix>>) {
         for place in self.places.iter_mut() {
-            let key = match place {
-                Some(node) => Some(node.key),
-                None => None,
-            };
-            if key == old {
+            if place.map(|node| node.key) == old {
                 *place = new;
                 return;
             }
@@ -136,7 +141,7 @@ impl Plain {
 
     // Makes the missing nodes from the top down.
     fn make_missing(&mut self, key: AddressPrefix) {
-        for length in [8u8, 16, 24, 32] {
+        for length in LENGTHS {
             let name = cut(key, length);
             let above = self.nearest(name);
             if above.key != name {
@@ -168,21 +173,19 @@ impl Plain {
     // another node of that length, so they may be read as they were at the beginning.
     fn fold_length(&mut self, length: u8) {
         let error = self.error();
-        let places = self.places;
-        for place in places.iter() {
-            if let Some(node) = place
-                && node.key.length == length
-                && self.beneath(node.key).0 == 1
+        for node in self.places.into_iter().flatten() {
+            if node.key.length == length
+                && self.stored_beneath(node.key) == 1
                 && node.own.saturating_add(node.slack) <= error
             {
-                self.fold(*node);
+                self.fold(node);
             }
         }
     }
 
     pub(crate) fn sweep(&mut self) -> usize {
         let before = self.folded;
-        for length in [32u8, 24, 16, 8] {
+        for length in LENGTHS.into_iter().rev() {
             self.fold_length(length);
         }
         self.folded.saturating_sub(before)

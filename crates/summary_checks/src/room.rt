@@ -1,13 +1,13 @@
 // Tables that fill up, with width 10: what a sweep before an add makes room for, and what is refused after it.
 use super::steps::Step::{Add, Bounds, Sweep};
-use super::steps::{VACANT, run};
+use super::steps::{run, vacant};
 use std::test::Fail;
 
 #[test]
 fn a_host_needs_four_slots(rt: HostRuntime) -> Result<(), Fail> {
     run(
         &rt,
-        &mut [VACANT; 3],
+        &mut [vacant(); 3],
         &[
             Add(([10, 1, 1, 1], 32), 1, Err(6)),
             Bounds(([0, 0, 0, 0], 0), 0, 0),
@@ -27,7 +27,7 @@ fn a_host_needs_four_slots(rt: HostRuntime) -> Result<(), Fail> {
 fn no_weight_leaves_a_full_table_alone(rt: HostRuntime) -> Result<(), Fail> {
     run(
         &rt,
-        &mut [VACANT; 8],
+        &mut [vacant(); 8],
         &[
             Add(([10, 1, 1, 1], 32), 20, Ok(20)),
             Add(([11, 2, 3, 4], 32), 1, Ok(21)),
@@ -57,7 +57,7 @@ fn no_weight_leaves_a_full_table_alone(rt: HostRuntime) -> Result<(), Fail> {
 fn a_sweep_may_fold_an_ancestor_of_the_new_host(rt: HostRuntime) -> Result<(), Fail> {
     run(
         &rt,
-        &mut [VACANT; 8],
+        &mut [vacant(); 8],
         &[
             Add(([10, 1, 1, 1], 32), 20, Ok(20)),
             Add(([11, 2, 3, 4], 32), 1, Ok(21)),
@@ -89,7 +89,7 @@ fn a_sweep_may_fold_an_ancestor_of_the_new_host(rt: HostRuntime) -> Result<(), F
 fn a_refused_host_leaves_its_sweep_done(rt: HostRuntime) -> Result<(), Fail> {
     run(
         &rt,
-        &mut [VACANT; 8],
+        &mut [vacant(); 8],
         &[
             Add(([10, 1, 1, 1], 32), 20, Ok(20)),
             Add(([10, 1, 2, 1], 32), 5, Ok(25)),

@@ -1,6 +1,8 @@
 // Runs as lists of steps: what is asked of a summary, each with the answer to expect, and what is left in its table.
 use model::Node;
 use octets::{AddressPrefix, Octets};
+use prefix::Hierarchy;
+use refusal::Refusal;
 use settings::Settings;
 use std::process::Abort;
 use std::test::Fail;
@@ -16,16 +18,12 @@ pub(crate) type Slot = ([u8; 4], u8, u64, u64, u64);
 pub(crate) const LARGEST_TOTAL: u64 = 281_474_976_710_655;
 
 // What fills a table before it is lent.
-pub(crate) const VACANT: Node<AddressPrefix> = Node {
-    key: AddressPrefix {
-        address: 0,
-        length: 0,
-    },
-    own: 0,
-    slack: 0,
-    ceiling: 0,
-};
+pub(crate) fn vacant() -> Node<AddressPrefix> {
+    Node::vacant(Octets.root())
+}
 
+// Steps are data and no closures: a reader checks the table of a run by its figures. Refusals stand by the numbers that an
+// operator reads.
 pub(crate) enum Step {
     // a key, a weight, and the total after it or the number of the refusal
     Add(Dotted, u32, Result<u64, u8>),
@@ -37,6 +35,7 @@ pub(crate) enum Step {
     Bounds(Dotted, u64, u64),
 }
 
+// A function with a name, since no `From` may join two types of other crates.
 fn prefix(dotted: Dotted) -> AddressPrefix {
     let (octets, length) = dotted;
     AddressPrefix {
@@ -45,9 +44,14 @@ fn prefix(dotted: Dotted) -> AddressPrefix {
     }
 }
 
-pub(crate) fn slot(node: &Node<AddressPrefix>) -> Slot {
-    let octets = node.key.address.to_be_bytes();
-    (octets, node.key.length, node.own, node.slack, node.ceiling)
+pub(crate) fn node(slot: Slot) -> Node<AddressPrefix> {
+    let (octets, length, own, slack, ceiling) = slot;
+    Node {
+        key: prefix((octets, length)),
+        own,
+        slack,
+        ceiling,
+    }
 }
 
 fn repeat(
@@ -71,10 +75,9 @@ fn take(
 ) -> Result<(), Fail> {
     match step {
         Step::Add(key, weight, expected) => {
-            let answer = match summary.add(&Octets, prefix(*key), *weight) {
-                Ok(total) => Ok(total),
-                Err(refusal) => Err(refusal.number()),
-            };
+            let answer = summary
+                .add(&Octets, prefix(*key), *weight)
+                .map_err(Refusal::number);
             assert_eq!(rt; answer, *expected, "step {place}");
             Ok(())
         }
@@ -103,9 +106,12 @@ fn play(rt: &impl Abort, nodes: &mut [Node<AddressPrefix>], steps: &[Step]) -> R
     Ok(())
 }
 
-// A slot of a table against the node that it should hold.
-pub(crate) fn check_slot(rt: &impl Abort, node: &Node<AddressPrefix>, expected: Slot) {
-    assert_eq!(rt; slot(node), expected);
+// The table begins with these nodes.
+pub(crate) fn check_front(rt: &impl Abort, nodes: &[Node<AddressPrefix>], left: &[Slot]) {
+    assert!(rt; left.len() <= nodes.len());
+    for (stored, expected) in nodes.iter().zip(left) {
+        assert_eq!(rt; *stored, node(*expected));
+    }
 }
 
 // Takes the steps with a summary over the table; when it is gone, the table begins with the nodes that are left.
@@ -116,9 +122,6 @@ pub(crate) fn run(
     left: &[Slot],
 ) -> Result<(), Fail> {
     play(rt, nodes, steps)?;
-    for (i, expected) in left.iter().enumerate() {
-        let node = nodes.get(i).ok_or("the table is too short")?;
-        check_slot(rt, node, *expected);
-    }
+    check_front(rt, nodes, left);
     Ok(())
 }

@@ -1,8 +1,9 @@
-// The two sweeps of one table, worked out by hand: both leave the same nodes and hand the same up to the root.
-use super::steps::{Slot, VACANT, check_slot};
+// Two sweeps of one table, worked out by hand: one under a root that has counted nothing, one under a root that has. Both
+// leave the same nodes and hand the same up.
+use super::steps::{Slot, check_front, node};
 use model::{Node, Root};
 use octets::{AddressPrefix, Octets};
-use sweep::{sweep_nodes, sweep_tree};
+use sweep::sweep_tree;
 
 const BEFORE: [Slot; 12] = [
     ([10, 0, 0, 0], 8, 2, 0, 2),
@@ -31,38 +32,20 @@ const AFTER: [Slot; 7] = [
     ([10, 2, 0, 0], 24, 1, 2, 2),
 ];
 
-fn node(slot: Slot) -> Node<AddressPrefix> {
-    let (octets, length, own, slack, ceiling) = slot;
-    Node {
-        key: AddressPrefix {
-            address: u32::from_be_bytes(octets),
-            length,
-        },
-        own,
-        slack,
-        ceiling,
-    }
-}
-
 fn table() -> [Node<AddressPrefix>; 12] {
-    let mut nodes = [VACANT; 12];
-    for (i, slot) in BEFORE.iter().enumerate() {
-        nodes[i] = node(*slot);
-    }
-    nodes
+    BEFORE.map(node)
 }
 
 #[test]
 fn both_sweeps_leave_the_same_tree(rt: HostRuntime) {
     let mut walked = table();
-    let swept = sweep_nodes(&Octets, &mut walked, 2);
-    assert!(rt; swept.kept == 7 && swept.own == 1 && swept.ceiling == 1);
+    let root = Root { own: 0, ceiling: 0 };
+    let swept = sweep_tree(&Octets, &mut walked, root, 2);
+    assert!(rt; swept.kept == 7 && swept.root.own == 1 && swept.root.ceiling == 1);
     let mut folded = table();
     let root = Root { own: 7, ceiling: 0 };
     let tree = sweep_tree(&Octets, &mut folded, root, 2);
     assert!(rt; tree.kept == 7 && tree.root.own == 8 && tree.root.ceiling == 1);
-    for (i, expected) in AFTER.iter().enumerate() {
-        check_slot(&rt, &walked[i], *expected);
-        check_slot(&rt, &folded[i], *expected);
-    }
+    check_front(&rt, &walked, &AFTER);
+    check_front(&rt, &folded, &AFTER);
 }

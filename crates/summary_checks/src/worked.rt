@@ -1,6 +1,6 @@
 // A run that was worked out by hand, with width 10: the total reaches 11 and 20, so the error grows twice.
 use super::steps::Step::{Add, Bounds};
-use super::steps::{VACANT, run};
+use super::steps::{run, vacant};
 use crate::definitions_give_the_worked_run;
 use std::test::Fail;
 
@@ -12,7 +12,7 @@ fn light_hosts_fold_into_their_ancestors(rt: HostRuntime) -> Result<(), Fail> {
     definitions_give_the_worked_run();
     run(
         &rt,
-        &mut [VACANT; 64],
+        &mut [vacant(); 64],
         &[
             Add(([10, 1, 1, 1], 32), 4, Ok(4)),
             Add(([10, 1, 1, 2], 32), 5, Ok(9)),
@@ -46,7 +46,7 @@ fn light_hosts_fold_into_their_ancestors(rt: HostRuntime) -> Result<(), Fail> {
 fn new_nodes_begin_with_the_ceiling_above(rt: HostRuntime) -> Result<(), Fail> {
     run(
         &rt,
-        &mut [VACANT; 64],
+        &mut [vacant(); 64],
         &[
             Add(([10, 1, 1, 1], 32), 4, Ok(4)),
             Add(([10, 1, 1, 2], 32), 5, Ok(9)),

@@ -4,10 +4,12 @@ use Rattle.std.proofs.lemmas.List.{length-append, take_all, take-append-le}
 use Rattle.prefix.specs.Meaning.{Meaning}
 use Rattle.model.specs.declared.Node.{Node}
 use Rattle.model.specs.declared.Root.{Root}
+use Rattle.sweep.specs.declared.SweptTree.{SweptTree}
 use Rattle.model.specs.State.{Tree, largest_total}
 use Rattle.model.specs.Summary.{folded_among, folded_from, swept_tree}
 use Rattle.model.specs.Sound.{SoundTree}
-use Rattle.model.proofs.Folding.{tree_of, level_sound}
+use Rattle.model.proofs.Handing.{tree_of}
+use Rattle.model.proofs.Folding.{level_sound}
 
 -- with so many levels still to fold: the tree is sound, and folding them makes what a sweep makes of the start
 pub record Left {K : Type 0} (m : Meaning K) (e : ℕ) (start : Tree K) (levels total : ℕ) (t : Tree K) : Type 0 where
@@ -24,28 +26,27 @@ Folds m e level r ns r' ns' =
     (total : ℕ) → SoundTree m total e (tree_of r ns) → e ≤ largest_total → tree_of r' ns' ≡ folded_among m e level ns (tree_of r ns)
 
 module _ {K : Type 0} (m : Meaning K) (e : ℕ) (start : Tree K) where
-  pub levels_start : (levels kept : ℕ) → levels ≡ m.depth → kept ≡ length start.nodes → Levels m e start levels kept start.root start.nodes
-  levels_start levels kept all full =
-      let same : tree_of start.root (take kept start.nodes) ≡ start =
-      ap (tree_of start.root) (take_all kept start.nodes (omega arith)) in
+  pub levels_start : (levels : ℕ) (t : SweptTree) → levels ≡ m.depth → t ≡ record { kept = length start.nodes; root = start.root } → Levels m e start levels t.kept t.root start.nodes
+  levels_start levels t all first =
+      let root : t.root ≡ start.root = ap (λ (x : SweptTree). x.root) first in
+      let full : t.kept ≡ length start.nodes = ap (λ (x : SweptTree). x.kept) first in
+      let same : tree_of t.root (take t.kept start.nodes) ≡ start =
+      ap (tree_of t.root) (take_all t.kept start.nodes (omega arith)) ∙ ap (λ (r : Root). tree_of r start.nodes) root in
       record {
         within = omega arith;
         left = λ total s small.
             record {
               sound = subst (SoundTree m total e) (sym same) s;
-              makes = ap (λ k. folded_from m e k (tree_of start.root (take kept start.nodes))) all ∙ ap (folded_from m e m.depth) same;
+              makes = ap (λ k. folded_from m e k (tree_of t.root (take t.kept start.nodes))) all ∙ ap (folded_from m e m.depth) same;
             };
       }
 
-  -- a level is folded among the nodes before a cut, and the nodes behind it stay
-  pub levels_more : (levels kept cut level kept' : ℕ) (r r' : Root) (nodes part back : List (Node K)) → 0 < levels → level ≡ levels → cut ≡ kept → kept' ≤ length part → Folds m e level r (take cut nodes) r' (take kept' part) → Levels m e start levels kept r nodes → Levels m e start (levels - 1) kept' r' (part ++ back)
-  levels_more levels kept cut level kept' r r' nodes part back some here whole fits folds w =
+  pub levels_more : (levels kept level kept' : ℕ) (r r' : Root) (nodes part back : List (Node K)) → 0 < levels → level ≡ levels → kept' ≤ length part → Folds m e level r (take kept nodes) r' (take kept' part) → Levels m e start levels kept r nodes → Levels m e start (levels - 1) kept' r' (part ++ back)
+  levels_more levels kept level kept' r r' nodes part back some here fits folds w =
       let t : Tree K = tree_of r (take kept nodes) in
       let up : levels ≡ suc (levels - 1) = omega arith in
       let front = take-append-le kept' part back fits in
-      let folds' =
-      subst (λ k. Folds m e (suc (levels - 1)) r (take k nodes) r' (take kept' part)) whole
-      (subst (λ k. Folds m e k r (take cut nodes) r' (take kept' part)) (here ∙ up) folds) in
+      let folds' = subst (λ k. Folds m e k r (take kept nodes) r' (take kept' part)) (here ∙ up) folds in
       record {
         within = omega (arith, length-append part back);
         left = λ total s small.

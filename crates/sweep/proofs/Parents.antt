@@ -15,10 +15,12 @@ use Rattle.model.specs.Weights.{Weighted, total_of}
 use Rattle.model.specs.Summary.{among, is_present, name_at, names_of, took, root_took, taken, handed, folded, owns}
 use Rattle.model.specs.Sound.{Placed, Formed, Stands, SoundTree}
 use Rattle.sweep.specs.Handing.{capped, load_of, takes, root_takes, Within, HandedUp}
-use Rattle.model.proofs.Names.{sorted_left, parent_earlier, last_is_parent}
+use Rattle.model.proofs.Among.{sorted_left}
+use Rattle.model.proofs.Names.{parent_earlier, last_is_parent}
 use Rattle.model.proofs.Nodes.{taken_at}
 use Rattle.model.proofs.Counts.{all_middle}
-use Rattle.model.proofs.Folding.{followed, tree_of, fold_shape}
+use Rattle.model.proofs.Folding.{followed, fold_shape}
+use Rattle.model.proofs.Handing.{tree_of}
 
 -- no node has so many steps
 abbrev pub NoneOf : {K : Type 0} → Meaning K → ℕ → List (Node K) → Type 0

@@ -14,7 +14,8 @@ use Rattle.model.specs.Table.{run_of}
 use Rattle.model.specs.Sound.{Formed, SoundTree}
 use Rattle.sweep.specs.Handing.{load_of, HandedUp}
 use Rattle.model.proofs.Names.{starts_deeper, beneath_next}
-use Rattle.model.proofs.Folding.{tree_of, fold_sound}
+use Rattle.model.proofs.Handing.{tree_of}
+use Rattle.model.proofs.Folding.{fold_sound}
 use Rattle.sweep.proofs.Parents.{ParentIs, parent_here, parent_before, parent_stays, handed_length, names_split, load_fits, folded_is}
 
 -- with the kept nodes and those ahead: the tree is sound, and folding those ahead makes what folding all makes of the start
@@ -46,15 +47,6 @@ module _ {K : Type 0} (m : Meaning K) (ns : List (Node K)) where
   pub steps_read : (i : ℕ) (n d : Node K) (steps : ℕ) → i < length ns → n ≡ get_or ns i n → steps ≡ length (name_at m (get_or ns i d)) → steps ≡ length (name_at m n)
   steps_read i n d steps within here e =
       e ∙ ap (λ (x : Node K). length (name_at m x)) (get_or_default ns i d n within ∙ sym here)
-
-  pub deeper_read : (i : ℕ) (d : Node K) (depth steps : ℕ) → i < length ns → steps ≡ length (name_at m (get_or ns i d)) → ltb depth steps ≡ deeper_next m depth (drop i ns)
-  deeper_read i d depth steps within e =
-      ap (ltb depth) e
-      ∙ deeper_is depth (name_at m (get_or ns i d) ∷ names_of m (drop (i + 1) ns))
-      ∙ ap (deeper_next m depth) (sym (drop_more ns i d within))
-
-  pub deeper_past : (i depth : ℕ) → length ns ≤ i → false ≡ deeper_next m depth (drop i ns)
-  deeper_past i depth past = ap (deeper_next m depth) (sym (drop_all i ns past))
 
 -- a reason for a node of so many steps and such a load to stay
 abbrev pub Stays : {K : Type 0} → Meaning K → (e level depth load : ℕ) → List (Node K) → Type 0

@@ -1,104 +1,117 @@
-// Folding light nodes into their parents, in two ways. `sweep_tree`, in the module folding, folds level by level from the
-// deepest; its contract says what a sweep is defined to leave, and a summary sweeps by it. `sweep_nodes`, here, settles a
-// table in one walk. In name order a node's children come after it, so a walk from the last node to the first settles the
-// levels from the deepest up: what the children hand up waits in a carry for each level until their parent is reached. The
-// kept nodes gather at the end of the used slots and are then moved to the front.
+// Folding light nodes into their parents, level by level from the deepest to the first. One walk over the table settles a
+// level: in name order a node's parent is the last node before it of the level above, and something lies beneath a node
+// exactly when the next node has more steps. The nodes that stay move to the front as the walk goes on.
 #![tactic(auto)]
 
-ghost use Rattle.std.specs.Prelude.{◌≡◌, ◌≤◌, ◌<◌, length};
+ghost use Rattle.std.specs.Prelude.{◌≡◌, ℕ, ◌+◌, ◌<◌, ◌≤◌, length, take, drop, nat_lt};
+ghost use Rattle.model.specs.State.{largest_total};
+ghost use Rattle.model.specs.Summary.{names_of, folded_among, swept_tree};
+ghost use Rattle.model.specs.Table.{run_of};
+ghost use Rattle.model.specs.Sound.{SoundTree};
+ghost use Rattle.sweep.specs.Handing.{Within, HandedUp};
 
-mod folding;
+use model::{Node, Root};
+use prefix::Hierarchy;
 
-pub use folding::{SweptTree, sweep_tree};
-use model::Node;
-use prefix::{Hierarchy, LEVELS};
-
-// What the settled nodes beneath a prefix hand up to it.
+// What is left: how many nodes stay, at the front of the table, and the root's figures.
 #[derive(Clone, Copy)]
-struct Carry {
-    own: u64,
-    ceiling: u64,
-    // whether a node beneath the prefix stays stored
-    kept: bool,
+pub struct SweptTree {
+    pub kept: usize,
+    pub root: Root,
 }
 
-const NOTHING: Carry = Carry {
-    own: 0,
-    ceiling: 0,
-    kept: false,
-};
+// Whether the node at an index has more than so many steps. In name order, whether anything lies beneath the one before it,
+// which has so many.
+fn is_deeper<K: Copy, H: Hierarchy<Key = K>>(
+    hierarchy: &H,
+    nodes: &[Node<K>],
+    at: usize,
+    depth: usize,
+) -> bool
+    ensures { result ≡ nat_lt 0 (run_of depth (names_of (H.Hierarchy.means hierarchy.now) (drop at nodes.now))) }
+{
+    nodes
+        .get(at)
+        .is_some_and(|node| hierarchy.level(node.key) > depth)
+}
 
-// Takes over what the nodes beneath handed up, and then stays, or hands its own count up and answers none.
-fn settle<K: Copy>(
-    node: Node<K>,
+// Hands a node's own count and load up to its parent among the kept nodes, or to the root. The parent is named by its place,
+// since a reference to it could not last while the walk writes to the slots.
+fn hand_up<K: Copy>(kept: &mut [Node<K>], parent: Option<usize>, root: Root, node: Node<K>) -> Root
+    requires { Within (length kept.old) parent }
+    ensures { HandedUp parent node root kept.old result kept.new }
+{
+    let load = node.own.saturating_add(node.slack);
+    match parent {
+        Some(at) => {
+            kept[at] = kept[at].taking(node.own, load);
+            root
+        }
+        None => root.taking(node.own, load),
+    }
+}
+
+// Folds the foldable nodes of one level. The walk writes to slots that it has read past, so it counts the slots: no iterator
+// lends one slice for both.
+fn fold_level<K: Copy, H: Hierarchy<Key = K>>(
+    hierarchy: &H,
+    nodes: &mut [Node<K>],
+    root: Root,
     level: usize,
     error: u64,
-    carries: &mut [Carry],
-) -> Option<Node<K>>
-    requires { level < length carries.old }
+) -> SweptTree
+    requires { 0 < level }
+    ensures within { result.kept ≤ length nodes.old }
+    ensures value { (total : ℕ) → SoundTree (H.Hierarchy.means hierarchy.now) total error (record { root = root; nodes = nodes.old }) → error ≤ largest_total → record { root = result.root; nodes = take result.kept nodes.new } ≡ folded_among (H.Hierarchy.means hierarchy.now) error level nodes.old (record { root = root; nodes = nodes.old }) }
 {
-    let carry = carries[level];
-    carries[level] = NOTHING;
-    let own = node.own.saturating_add(carry.own);
-    let load = own.saturating_add(node.slack);
-    let above = level.saturating_sub(1);
-    if carry.kept || load > error {
-        carries[above].kept = true;
-        return Some(Node {
-            key: node.key,
-            own,
-            slack: node.slack,
-            ceiling: node.ceiling.max(carry.ceiling),
-        });
-    }
-    carries[above].own = carries[above].own.saturating_add(own);
-    carries[above].ceiling = carries[above].ceiling.max(load);
-    None
-}
-
-// Settles all nodes, the last first, and gathers the kept ones at the end; answers where they begin.
-fn settle_all<K: Copy, H: Hierarchy<Key = K>>(
-    hierarchy: &H,
-    nodes: &mut [Node<K>],
-    error: u64,
-    carries: &mut [Carry],
-) -> usize
-    requires { length carries.old ≡ 33 }
-    ensures { result ≤ length nodes.old }
-{
-    let mut begin = nodes.len();
-    for i in (0..nodes.len()).rev() {
+    let above = level - 1;
+    let mut root = root;
+    let mut kept = 0;
+    let mut parent = None;
+    for i in 0..nodes.len() {
+        let depth = hierarchy.level(nodes[i].key);
         let node = nodes[i];
-        if let Some(kept) = settle(node, hierarchy.level(node.key), error, carries) {
-            begin -= 1;
-            nodes[begin] = kept;
+        let load = node.own.saturating_add(node.slack);
+        if depth == level && load <= error && !is_deeper(hierarchy, nodes, i + 1, depth) {
+            root = hand_up(&mut nodes[..kept], parent, root, node);
+        } else {
+            if depth == above {
+                parent = Some(kept);
+            }
+            nodes[kept] = node;
+            kept += 1;
         }
     }
-    begin
+    SweptTree { kept, root }
 }
 
-// What is left after a sweep: how many nodes stay, at the front of the table, and what the root takes over.
-#[derive(Clone, Copy)]
-pub struct Swept {
-    pub kept: usize,
-    pub own: u64,
-    pub ceiling: u64,
+// Before a sweep every node stays. Said in a function, so that a clause holds the count that a sweep begins with.
+fn all_kept<K: Copy>(nodes: &[Node<K>], root: Root) -> SweptTree
+    ensures { result ≡ record { kept = length nodes.now; root = root } }
+{
+    SweptTree {
+        kept: nodes.len(),
+        root,
+    }
 }
 
+// The nodes, the root and the error stay three arguments: only the nodes are lent, and a struct with a part of a table in it
+// would be taken apart again for each level.
+//
 // Folds every node with nothing stored beneath it and own count + slack at most the error, the deepest level first.
-pub fn sweep_nodes<K: Copy, H: Hierarchy<Key = K>>(
+pub fn sweep_tree<K: Copy, H: Hierarchy<Key = K>>(
     hierarchy: &H,
     nodes: &mut [Node<K>],
+    root: Root,
     error: u64,
-) -> Swept
-    ensures { result.kept ≤ length nodes.old }
+) -> SweptTree
+    ensures within { result.kept ≤ length nodes.old }
+    ensures value { (total : ℕ) → SoundTree (H.Hierarchy.means hierarchy.now) total error (record { root = root; nodes = nodes.old }) → error ≤ largest_total → record { root = result.root; nodes = take result.kept nodes.new } ≡ swept_tree (H.Hierarchy.means hierarchy.now) error (record { root = root; nodes = nodes.old }) }
 {
-    let mut carries = [NOTHING; LEVELS];
-    let begin = settle_all(hierarchy, nodes, error, &mut carries);
-    nodes.rotate_left(begin);
-    Swept {
-        kept: nodes.len() - begin,
-        own: carries[0].own,
-        ceiling: carries[0].ceiling,
+    let mut swept = all_kept(nodes, root);
+    for above in (0..hierarchy.depth_limit()).rev() {
+        let kept = swept.kept;
+        swept = fold_level(hierarchy, &mut nodes[..kept], swept.root, above + 1, error);
     }
+    swept
 }

@@ -1,41 +1,26 @@
 -- Climbing from a key to its nearest stored ancestor.
-use Rattle.std.proofs.Common.{◌≡◌, ℕ, zero, suc, ◌+◌, ◌-◌, ◌<◌, true, false, List, ◌∷◌, ◌++◌, length, get_or, take, drop, Some, None, sym, ap, ◌∙◌, subst, arith}
+use Rattle.std.proofs.Common.{◌≡◌, ℕ, zero, suc, ◌+◌, ◌-◌, ◌<◌, true, false, List, ◌∷◌, ◌++◌, length, get_or, take, drop, Ok, Err, Some, None, refl, sym, ap, ◌∙◌, subst, arith}
 use Rattle.std.specs.List.{HoldsAt}
 use Rattle.std.proofs.lemmas.List.{take-append-drop, drop_more}
 use Rattle.prefix.specs.Name.{Name}
 use Rattle.prefix.specs.Meaning.{Meaning}
-use Rattle.prefix.proofs.Names.{Climbed, climbed_none, climbed_more}
+use Rattle.prefix.proofs.Names.{Climbed, climbed_more}
 use Rattle.model.specs.declared.Node.{Node}
 use Rattle.model.specs.declared.Root.{Root}
 use Rattle.model.specs.State.{Tree}
 use Rattle.model.specs.Summary.{among, missing_up, name_at, names_of, node_of, ceiling_or, ceiling_up}
 use Rattle.model.specs.Sound.{Sorted, Formed}
 use Rattle.table.specs.declared.lookup.Ancestry.{Ancestry}
-use Rattle.table.specs.Ancestors.{Ancestors}
+use Rattle.table.specs.Ancestors.{Found, Ancestors}
 use Rattle.model.proofs.Names.{none_missing}
 use Rattle.model.proofs.Nodes.{node_at, no_node}
-use Rattle.model.proofs.AddingHelp.{present_from_among}
-use Rattle.table.proofs.Positions.{Place, among_names}
+use Rattle.model.proofs.Among.{present_from_among}
+use Rattle.model.specs.Table.{count_before}
+use Rattle.table.proofs.Positions.{among_names}
 
 -- a root of which only the ceiling is known
 abbrev pub bare : ℕ → Root
 bare c = record { own = 0; ceiling = c }
-
-module _ {K : Type 0} (m : Meaning K) (ceiling : ℕ) (stored : List (Node K)) where
-  -- the ceiling above a name is not changed by what the root has counted
-  ceiling_up_at : (root : Root) → root.ceiling ≡ ceiling → (p : Name) (k : ℕ) → ceiling_up m (record { root = bare ceiling; nodes = stored }) p k ≡ ceiling_up m (record { root = root; nodes = stored }) p k
-  ceiling_up_at root e p zero = sym e
-  ceiling_up_at root e p (suc k) = ap (ceiling_or (node_of m stored (take (suc k) p))) (ceiling_up_at root e p k)
-
-  -- so the ancestry holds for every root of that ceiling
-  pub any_root : (key : K) (a : Ancestry) → Ancestors m stored key (bare ceiling) a → (root : Root) → root.ceiling ≡ ceiling → Ancestors m stored key root a
-  any_root key a h root e =
-      record {
-        missing_is = h.missing_is;
-        ceiling_is = h.ceiling_is ∙ ceiling_up_at root e (m.name_of key) (length (m.name_of key));
-        at_is = h.at_is;
-        nearest_is = h.nearest_is;
-      }
 
 module _ {K : Type 0} (m : Meaning K) (root : Root) (stored : List (Node K)) where
   abbrev tree : Tree K
@@ -61,56 +46,78 @@ module _ {K : Type 0} (m : Meaning K) (root : Root) (stored : List (Node K)) whe
 
   module _ (key : K) where
     -- after so many parent questions, with none of the names stored so far
-    abbrev pub Passed : ℕ → K → Type 0
-    Passed i up =
-        let p : Name = m.name_of key in
-        Climbed m key i up × (Formed (names_of m stored) → (i + missing_up (names_of m stored) p (length p - i) ≡ missing_up (names_of m stored) p (length p)) × (ceiling_up m tree p (length p - i) ≡ ceiling_up m tree p (length p)))
+    pub record Passed (i : ℕ) (up : K) : Type 0 where
+      pub climbed : Climbed m key i up
+      pub counted :
+          Formed (names_of m stored) → (i + missing_up (names_of m stored) (m.name_of key) (length (m.name_of key) - i) ≡ missing_up (names_of m stored) (m.name_of key) (length (m.name_of key))) × (ceiling_up m tree (m.name_of key) (length (m.name_of key) - i) ≡ ceiling_up m tree (m.name_of key) (length (m.name_of key)))
 
-    pub passed_none : Passed 0 key
-    passed_none =
-        let p : Name = m.name_of key in
-        let all : length p - 0 ≡ length p = omega arith in
-        (climbed_none m key, λ f. (omega (arith, ap (missing_up (names_of m stored) p) all), ap (ceiling_up m tree p) all))
-
-    pub passed_more : (i : ℕ) (up next : K) → next ≡ m.parent_of up → i < length (m.name_of key) → (Sorted (names_of m stored) → among (names_of m stored) (m.name_of up) ≡ false) → Passed i up → Passed (i + 1) next
-    passed_more i up next e h none was =
+    pub passed_more : (i j : ℕ) (up next : K) → Passed i up → Found m stored (m.name_of up) (Err j) → next ≡ m.parent_of up → i < length (m.name_of key) → Passed (i + 1) next
+    passed_more i j up next was found n h =
         let p : Name = m.name_of key in
         let k : ℕ = length p - (i + 1) in
         let more : length p - i ≡ suc k = omega arith in
-        let up_is : take (suc k) p ≡ m.name_of up = ap (λ j. take j p) (sym more) ∙ sym was.0 in (
-          climbed_more m key i up next e h was.0,
-          λ f.
-              let gone : among (names_of m stored) (take (suc k) p) ≡ false = ap (among (names_of m stored)) up_is ∙ none f.ordered in (
-                omega (arith, (was.1 f).0, ap (missing_up (names_of m stored) p) more, missing_more p k gone),
-                sym (ceiling_more p k gone) ∙ ap (ceiling_up m tree p) (sym more) ∙ (was.1 f).1,
-              ),
-        )
+        let up_is : take (suc k) p ≡ m.name_of up = ap (λ l. take l p) (sym more) ∙ sym was.climbed in
+        record {
+          climbed = climbed_more m key i up next n h was.climbed;
+          counted =
+              λ f.
+              let none : among (names_of m stored) (m.name_of up) ≡ false = found.known f.ordered in
+              let gone : among (names_of m stored) (take (suc k) p) ≡ false = ap (among (names_of m stored)) up_is ∙ none in (
+                omega (arith, (was.counted f).0, ap (missing_up (names_of m stored) p) more, missing_more p k gone),
+                sym (ceiling_more p k gone) ∙ ap (ceiling_up m tree p) (sym more) ∙ (was.counted f).1,
+              );
+        }
 
     -- the first name that is stored
-    pub passed_found : (at i j : ℕ) (up : K) (d : Node K) → i < length (m.name_of key) → j < length stored → HoldsAt (λ n. name_at m n ≡ m.name_of up) stored j → Place m stored (m.name_of key) at → Passed i up → Formed (names_of m stored) → Ancestors m stored key root (record { missing = i; at = at; nearest = Some j; ceiling = (get_or stored j d).ceiling })
-    passed_found at i j up d h l there place was f =
+    ancestors_found : (at i j : ℕ) (up : K) (d : Node K) → Passed i up → i < length (m.name_of key) → j < length stored → HoldsAt (λ n. name_at m n ≡ m.name_of up) stored j → (Sorted (names_of m stored) → at ≡ count_before (names_of m stored) (m.name_of key)) → Formed (names_of m stored) → Ancestors m stored key root (record { missing = i; at = at; nearest = Some j; ceiling = (get_or stored j d).ceiling })
+    ancestors_found at i j up d was h l there place f =
         let p : Name = m.name_of key in
         let k : ℕ = length p - i in
         let some : 0 < k = omega arith in
-        let is : take k p ≡ name_at m (get_or stored j d) = sym was.0 ∙ sym (there d) in
+        let is : take k p ≡ name_at m (get_or stored j d) = sym was.climbed ∙ sym (there d) in
         let here : among (names_of m stored) (take k p) ≡ true = ap (among (names_of m stored)) is ∙ among_names m stored j d l in
         let none = none_missing (names_of m stored) f p k (omega arith) (present_from_among (names_of m stored) (take k p) here) in
         record {
-          missing_is = omega (arith, (was.1 f).0);
+          missing_is = omega (arith, (was.counted f).0);
           ceiling_is =
-              ceiling_there p k (get_or stored j d) some (ap (node_of m stored) is ∙ node_there j d l f.ordered) ∙ (was.1 f).1;
+              ceiling_there p k (get_or stored j d) some (ap (node_of m stored) is ∙ node_there j d l f.ordered) ∙ (was.counted f).1;
           at_is = place f.ordered;
-          nearest_is = (l, λ e. there e ∙ was.0);
+          nearest_is = (l, λ e. there e ∙ was.climbed);
         }
 
     -- none of the names is
-    pub passed_all : (at level i : ℕ) (up : K) → level ≡ length (m.name_of key) → i ≡ level → Place m stored (m.name_of key) at → Passed i up → Formed (names_of m stored) → Ancestors m stored key root (record { missing = level; at = at; nearest = None; ceiling = root.ceiling })
-    passed_all at level i up e h place was f =
+    ancestors_none : (at i : ℕ) (up : K) → Passed i up → i ≡ length (m.name_of key) → (Sorted (names_of m stored) → at ≡ count_before (names_of m stored) (m.name_of key)) → Formed (names_of m stored) → Ancestors m stored key root (record { missing = i; at = at; nearest = None; ceiling = root.ceiling })
+    ancestors_none at i up was h place f =
         let p : Name = m.name_of key in
         let none : length p - i ≡ 0 = omega arith in
         record {
-          missing_is = omega (arith, (was.1 f).0, ap (missing_up (names_of m stored) p) none);
-          ceiling_is = ap (ceiling_up m tree p) (sym none) ∙ (was.1 f).1;
+          missing_is = omega (arith, (was.counted f).0, ap (missing_up (names_of m stored) p) none);
+          ceiling_is = ap (ceiling_up m tree p) (sym none) ∙ (was.counted f).1;
           at_is = place f.ordered;
-          nearest_is = e;
+          nearest_is = h;
         }
+
+module _ {K : Type 0} (m : Meaning K) (stored : List (Node K)) (key : K) (root : Root) where
+  -- the ceiling above a name is not changed by what the root has counted
+  ceiling_up_at : (p : Name) (k : ℕ) → ceiling_up m (record { root = bare root.ceiling; nodes = stored }) p k ≡ ceiling_up m (record { root = root; nodes = stored }) p k
+  ceiling_up_at p zero = refl
+  ceiling_up_at p (suc k) = ap (ceiling_or (node_of m stored (take (suc k) p))) (ceiling_up_at p k)
+
+  -- so the ancestry holds for every root of that ceiling
+  any_root : (a : Ancestry) → Ancestors m stored key (bare root.ceiling) a → Ancestors m stored key root a
+  any_root a h =
+      record {
+        missing_is = h.missing_is;
+        ceiling_is = h.ceiling_is ∙ ceiling_up_at (m.name_of key) (length (m.name_of key));
+        at_is = h.at_is;
+        nearest_is = h.nearest_is;
+      }
+
+  module _ (ceiling at i : ℕ) (up : K) (was : Passed m (bare ceiling) stored key i up) (place : Sorted (names_of m stored) → at ≡ count_before (names_of m stored) (m.name_of key)) (f : Formed (names_of m stored)) (e : root.ceiling ≡ ceiling) where
+    pub climbed_found : (j : ℕ) (d : Node K) → Found m stored (m.name_of up) (Ok j) → i < length (m.name_of key) → Ancestors m stored key root (record { missing = i; at = at; nearest = Some j; ceiling = (get_or stored j d).ceiling })
+    climbed_found j d found h =
+        any_root _ (ancestors_found m (bare root.ceiling) stored key at i j up d (rw e was) h found.within found.there place f)
+
+    pub climbed_all : (level : ℕ) → level ≡ length (m.name_of key) → i ≡ level → Ancestors m stored key root (record { missing = level; at = at; nearest = None; ceiling = ceiling })
+    climbed_all level h done =
+        rw (← done, ← e) (any_root _ (ancestors_none m (bare root.ceiling) stored key at i up (rw e was) (done ∙ h) place f))

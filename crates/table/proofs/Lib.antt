@@ -1,4 +1,3 @@
-mod Filling
 mod Positions
 mod Climbing
 mod Lineages

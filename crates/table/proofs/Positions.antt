@@ -1,25 +1,26 @@
 -- Where names stand in a table in order.
-use Rattle.std.proofs.Common.{◌≡◌, ℕ, ◌+◌, ◌<◌, ◌≤◌, Bool, true, false, List, length, get_or, sym, ap, ◌∙◌, ⊎_elim, arith}
+use Rattle.std.proofs.Common.{◌≡◌, ℕ, ◌<◌, ◌≤◌, true, false, List, length, get_or, Ok, Err, sym, ap, ◌∙◌, arith}
 use lib.ListN.{length-map}
-use Rattle.std.specs.List.{HoldsAt}
+use Rattle.std.specs.List.Sorted.{IsPartitionedBy, IsPartitionPoint}
 use Rattle.std.proofs.lemmas.List.{get_or_default, get_or-map}
-use Rattle.std.proofs.lemmas.List.Sums.{prefix_len-le-length}
-use Rattle.std.proofs.lemmas.Bool.{cases_Bool}
-use Rattle.std.proofs.lemmas.Bool.Decides.{same_from_decides}
+use Rattle.std.proofs.lemmas.List.Sums.{prefix_len_is, prefix_len_passes}
+use Rattle.std.proofs.lemmas.Bool.{both_ways, false_from_ne_true}
 use Rattle.prefix.specs.Name.{Name, same_name, name_before}
 use Rattle.prefix.specs.Meaning.{Meaning}
-use Rattle.prefix.proofs.Names.{name_same, name_order}
+use Rattle.prefix.proofs.Names.{name_same, name_refl}
 use Rattle.model.specs.declared.Node.{Node}
 use Rattle.model.specs.Summary.{among, name_at, names_of}
 use Rattle.model.specs.Sound.{Sorted}
 use Rattle.model.specs.Table.{count_before}
-use Rattle.model.proofs.Names.{before_counts, after_counts, found_there, among_at}
+use Rattle.table.specs.Ancestors.{Found}
+use Rattle.model.proofs.Names.{before_counts, found_there as name_there_at}
+use Rattle.model.proofs.Among.{among_at}
 
 module _ {K : Type 0} (m : Meaning K) (stored : List (Node K)) where
   names_long : length (names_of m stored) ≡ length stored
   names_long = length-map stored (name_at m)
 
-  name_there : (i : ℕ) (d : Node K) (e : Name) → i < length stored → get_or (names_of m stored) i e ≡ name_at m (get_or stored i d)
+  pub name_there : (i : ℕ) (d : Node K) (e : Name) → i < length stored → get_or (names_of m stored) i e ≡ name_at m (get_or stored i d)
   name_there i d e h = get_or-map (name_at m) stored i d e h
 
   pub among_names : (i : ℕ) (d : Node K) → i < length stored → among (names_of m stored) (name_at m (get_or stored i d)) ≡ true
@@ -27,46 +28,49 @@ module _ {K : Type 0} (m : Meaning K) (stored : List (Node K)) where
       let e = name_at m d in
       rw (name_there i d e h) at (among_at (names_of m stored) i e (omega (arith, names_long)))
 
-  -- HALVING: the place of a name is from low to high
+  -- HALVING: the names that come before one stand in front, and there are `count_before` of them
 
-  abbrev pub Between : Name → ℕ → ℕ → Type 0
-  Between p low high =
-      Sorted (names_of m stored) → (low ≤ count_before (names_of m stored) p) × (count_before (names_of m stored) p ≤ high)
+  pub parted : (p : Name) → Sorted (names_of m stored) → IsPartitionedBy (λ n. name_before (name_at m n) p) stored
+  parted p s i j d low high e =
+      let there : name_before (get_or (names_of m stored) j p) p ≡ true = rw (name_there j d p high) e in
+      let later = before_counts (names_of m stored) p j p s (omega (arith, names_long)) there in
+      rw (← name_there i d p (omega arith)) (prefix_len_passes (λ q. name_before q p) (names_of m stored) i p (omega arith))
 
-  pub between_all : (p : Name) → Between p 0 (length stored)
-  between_all p s = (omega arith, omega (arith, prefix_len-le-length (λ q. name_before q p) (names_of m stored), names_long))
-
-  pub between_after : (p : Name) (low high i : ℕ) (d : Node K) → i < length stored → true ≡ name_before (name_at m (get_or stored i d)) p → Between p low high → Between p (i + 1) high
-  between_after p low high i d h b was s =
-      let there : name_before (get_or (names_of m stored) i p) p ≡ true = rw (name_there i d p h) (sym b) in
-      let more = before_counts (names_of m stored) p i p s (omega (arith, names_long)) there in
-      (omega arith, (was s).1)
-
-  pub between_before : (p : Name) (low high i : ℕ) (d : Node K) → i < length stored → false ≡ name_before (name_at m (get_or stored i d)) p → Between p low high → Between p low i
-  between_before p low high i d h b was s =
-      let there : name_before (get_or (names_of m stored) i p) p ≡ false = rw (name_there i d p h) (sym b) in
-      ((was s).0, after_counts (names_of m stored) p i p (omega (arith, names_long)) there)
+  pub point_counts : (p : Name) (i : ℕ) (d : Node K) → i ≤ length stored → IsPartitionPoint (λ n. name_before (name_at m n) p ≡ true) (λ n. name_before (name_at m n) p ≡ false) stored i → i ≡ count_before (names_of m stored) p
+  point_counts p i d h point =
+      sym (
+      prefix_len_is (λ q. name_before q p) (names_of m stored) i p
+      (omega (arith, names_long))
+      (λ k l. rw (name_there k d p (omega arith)) (point.0 k d (omega arith) l))
+      (λ l. rw (name_there i d p (omega (arith, names_long))) (point.1 i d (omega arith) (omega (arith, names_long)))))
 
   -- FINDING: the node at a name's place tells whether the name is there
 
-  abbrev pub Place : Name → ℕ → Type 0
-  Place p i = Sorted (names_of m stored) → i ≡ count_before (names_of m stored) p
+  module _ (p : Name) (i : ℕ) (place : Sorted (names_of m stored) → i ≡ count_before (names_of m stored) p) where
+    pub found_there : (d : Node K) → i < length stored → same_name (name_at m (get_or stored i d)) p ≡ true → Found m stored p (Ok i)
+    found_there d h e =
+        let named = name_same (name_at m (get_or stored i d)) p e in
+        record {
+          within = h;
+          there = λ d'. ap (name_at m) (get_or_default stored i d' d h) ∙ named;
+          place = place;
+          known = λ _. rw (← named) (among_names i d h);
+        }
 
-  pub same_tells : (p : Name) (i : ℕ) (d : Node K) (r : Bool) → i < length stored → r ≡ same_name (name_at m (get_or stored i d)) p → Place p i → Sorted (names_of m stored) → r ≡ among (names_of m stored) p
-  same_tells p i d r h e place s =
-      e
-      ∙ same_from_decides (same_name (name_at m (get_or stored i d)) p) (among (names_of m stored) p) (name_order.same_is_equal (name_at m (get_or stored i d)) p) (
-        (λ f. sym (name_there i d p h) ∙ ap (λ k. get_or (names_of m stored) k p) (place s) ∙ (found_there (names_of m stored) p s f).1 p),
-        (λ f. rw f at (among_names i d h)),
-      )
+    none_there : i ≤ length stored → (i < length stored → same_name (get_or (names_of m stored) i p) p ≡ false) → Found m stored p (Err i)
+    none_there h other =
+        record {
+          within = h;
+          there = tt;
+          place = place;
+          known = λ s. false_from_ne_true (among (names_of m stored) p) (λ f.
+              let there = name_there_at (names_of m stored) p s f in
+              let here : get_or (names_of m stored) i p ≡ p = ap (λ k. get_or (names_of m stored) k p) (place s) ∙ there.1 p in
+              both_ways (same_name (get_or (names_of m stored) i p) p) (other (omega (arith, there.0, place s, names_long))) (rw here (name_refl p)));
+        }
 
-  pub same_there : (p : Name) (i : ℕ) (d : Node K) (r : Bool) → i < length stored → r ≡ same_name (name_at m (get_or stored i d)) p → r ≡ true → HoldsAt (λ n. name_at m n ≡ p) stored i
-  same_there p i d r h e t d' =
-      ap (name_at m) (get_or_default stored i d' d h) ∙ name_same (name_at m (get_or stored i d)) p (sym e ∙ t)
+    pub none_past : i ≤ length stored → length stored ≤ i → Found m stored p (Err i)
+    none_past h past = none_there h (λ l. absurd (omega arith))
 
-  pub none_there : (p : Name) (i : ℕ) → length stored ≤ i → Place p i → Sorted (names_of m stored) → false ≡ among (names_of m stored) p
-  none_there p i h place s =
-      ⊎_elim
-      (λ f. absurd (omega (arith, (found_there (names_of m stored) p s f).0, place s, names_long)))
-      (λ f. sym f)
-      (cases_Bool (among (names_of m stored) p))
+    pub other_there : (d : Node K) → i < length stored → same_name (name_at m (get_or stored i d)) p ≡ false → Found m stored p (Err i)
+    other_there d h e = none_there (omega arith) (λ l. rw (name_there i d p l) e)

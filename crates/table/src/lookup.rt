@@ -1,25 +1,20 @@
 // Finding names in the table: the order question alone finds a name, and climbing from a key ends at its nearest stored
 // ancestor.
-ghost use Rattle.std.specs.Prelude.{◌≡◌, ◌<◌, ◌≤◌, true, length};
+ghost use Rattle.std.specs.Prelude.{◌≡◌, ◌<◌, ◌≤◌, length, IfSome};
 ghost use Rattle.std.specs.List.{HoldsAt};
+ghost use Rattle.prefix.specs.Name.{name_before};
 ghost use Rattle.model.specs.declared.Root.{Root};
-ghost use Rattle.model.specs.Summary.{among, name_at, names_of};
+ghost use Rattle.model.specs.Summary.{name_at, names_of};
 ghost use Rattle.model.specs.Sound.{Sorted, Formed};
 ghost use Rattle.model.specs.Table.{count_before};
-ghost use Rattle.table.specs.Ancestors.{Climbed, Ancestors};
+ghost use Rattle.table.specs.Ancestors.{Found, Climbed, Ancestors};
 
 use model::Node;
 use prefix::{Hierarchy, OrderedHierarchy};
 
-// Where a name stands in the table, or would stand.
-#[derive(Clone, Copy)]
-struct Spot {
-    at: usize,
-    stored: bool,
-}
-
 // A key's name and its ancestors' in the table: how many of them are missing, where the missing ones would stand, the
-// nearest stored one, none where that is the root, and the ceiling there.
+// nearest stored one, none where that is the root, and the ceiling there. That one is told by its slot and not by a
+// reference, since the caller writes to it in a slice that is lent anew.
 #[derive(Clone, Copy)]
 pub struct Ancestry {
     pub missing: usize,
@@ -37,37 +32,33 @@ fn position<K: Copy, H: OrderedHierarchy<Key = K>>(
     ensures within { result ≤ length stored.now }
     ensures value { Sorted (names_of (H.Hierarchy.means hierarchy.now) stored.now) → result ≡ count_before (names_of (H.Hierarchy.means hierarchy.now) stored.now) ((H.Hierarchy.means hierarchy.now).name_of key) }
 {
-    let mut low = 0;
-    let mut high = stored.len();
-    while low < high {
-        let middle = low + (high - low) / 2;
-        if hierarchy.before(stored[middle].key, key) {
-            low = middle + 1;
-        } else {
-            high = middle;
-        }
-    }
-    low
+    stored.partition_point(
+        |node: &Node<K>| -> bool
+            ensures { result ≡ name_before (name_at (H.Hierarchy.means hierarchy.entry.now) node.now) ((H.Hierarchy.means hierarchy.entry.now).name_of key) }
+        { hierarchy.before(node.key, key) },
+    )
 }
 
-fn find<K: Copy, H: OrderedHierarchy<Key = K>>(hierarchy: &H, stored: &[Node<K>], key: K) -> Spot
-    ensures at { result.at ≤ length stored.now }
-    ensures within { result.stored ≡ true → result.at < length stored.now }
-    ensures found { Sorted (names_of (H.Hierarchy.means hierarchy.now) stored.now) → result.stored ≡ among (names_of (H.Hierarchy.means hierarchy.now) stored.now) ((H.Hierarchy.means hierarchy.now).name_of key) }
-    ensures there { result.stored ≡ true → HoldsAt (λ n. name_at (H.Hierarchy.means hierarchy.now) n ≡ (H.Hierarchy.means hierarchy.now).name_of key) stored.now result.at }
+// Where the key's name stands in the table, or else where it would stand. The library's `binary_search_by` would ask two
+// questions at each halving, which order and whether the same; here the second is asked once.
+#[tactic(auto, using(crate::proofs::Positions::found_there, crate::proofs::Positions::none_past, crate::proofs::Positions::other_there))]
+fn find<K: Copy, H: OrderedHierarchy<Key = K>>(
+    hierarchy: &H,
+    stored: &[Node<K>],
+    key: K,
+) -> Result<usize, usize>
+    ensures { Found (H.Hierarchy.means hierarchy.now) stored.now ((H.Hierarchy.means hierarchy.now).name_of key) result }
 {
     let at = position(hierarchy, stored, key);
-    if at < stored.len() {
-        Spot {
-            at,
-            stored: hierarchy.same(stored[at].key, key),
-        }
+    if at < stored.len() && hierarchy.same(stored[at].key, key) {
+        Ok(at)
     } else {
-        Spot { at, stored: false }
+        Err(at)
     }
 }
 
 // Climbs from the key towards the root until a stored name is found.
+#[tactic(auto, using(crate::proofs::Climbing::climbed_all))]
 pub fn climb<K: Copy, H: OrderedHierarchy<Key = K>>(
     hierarchy: &H,
     stored: &[Node<K>],
@@ -75,19 +66,20 @@ pub fn climb<K: Copy, H: OrderedHierarchy<Key = K>>(
     root_ceiling: u64,
 ) -> Ancestry
     ensures always { Climbed (H.Hierarchy.means hierarchy.now) stored.now key root_ceiling result }
+    ensures place { Sorted (names_of (H.Hierarchy.means hierarchy.now) stored.now) → result.at ≡ count_before (names_of (H.Hierarchy.means hierarchy.now) stored.now) ((H.Hierarchy.means hierarchy.now).name_of key) }
+    ensures nearest { IfSome result.nearest (HoldsAt (λ n. n.ceiling ≡ result.ceiling) stored.now) }
     ensures formed { Formed (names_of (H.Hierarchy.means hierarchy.now) stored.now) → (root : Root) → root.ceiling ≡ root_ceiling → Ancestors (H.Hierarchy.means hierarchy.now) stored.now key root result }
 {
     let at = position(hierarchy, stored, key);
     let level = hierarchy.level(key);
     let mut up = key;
     for missing in 0..level {
-        let spot = find(hierarchy, stored, up);
-        if spot.stored {
+        if let Ok(nearest) = find(hierarchy, stored, up) {
             return Ancestry {
                 missing,
                 at,
-                nearest: Some(spot.at),
-                ceiling: stored[spot.at].ceiling,
+                nearest: Some(nearest),
+                ceiling: stored[nearest].ceiling,
             };
         }
         up = hierarchy.parent(up);

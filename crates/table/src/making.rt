@@ -9,19 +9,20 @@ ghost use Rattle.table.specs.Ancestors.{Starts};
 use model::Node;
 use prefix::Hierarchy;
 
+// A made node is said by its key and the ceiling it starts from, here and below: a struct of the two would be the node itself.
 fn new_node<K: Copy>(key: K, ceiling: u64) -> Node<K>
     ensures starts { Starts result ceiling }
     ensures value { result ≡ fresh key ceiling }
 {
     Node {
-        key,
-        own: 0,
         slack: ceiling,
         ceiling,
+        ..Node::vacant(key)
     }
 }
 
 // Writes a node for the key into the last slot, and for its ancestors into those before it.
+#[tactic(auto, using(crate::proofs::Lineages::written_more, crate::proofs::Lineages::written_starts))]
 fn make_nodes<K: Copy, H: Hierarchy<Key = K>>(
     hierarchy: &H,
     made: &mut [Node<K>],
@@ -32,6 +33,8 @@ fn make_nodes<K: Copy, H: Hierarchy<Key = K>>(
     ensures value { made.new ≡ lineage (H.Hierarchy.means hierarchy.now) key ceiling (length made.old) }
 {
     let mut up = key;
+    // By index: tried as `iter_mut().rev()`, after which the proof knows the slots' length but none of their nodes, so
+    // that `starts` and `value` stayed open.
     for i in (0..made.len()).rev() {
         made[i] = new_node(up, ceiling);
         up = hierarchy.parent(up);
@@ -40,6 +43,7 @@ fn make_nodes<K: Copy, H: Hierarchy<Key = K>>(
 
 // Makes the missing nodes at the front of the slots, of which the last ones are free: one shift of the nodes that stand
 // there makes room for all.
+#[tactic(auto, using(crate::proofs::Lineages::inserted))]
 pub fn insert_missing<K: Copy, H: Hierarchy<Key = K>>(
     hierarchy: &H,
     slots: &mut [Node<K>],
@@ -52,5 +56,5 @@ pub fn insert_missing<K: Copy, H: Hierarchy<Key = K>>(
 {
     let count = missing.min(slots.len());
     slots.rotate_right(count);
-    make_nodes(hierarchy, &mut slots[0..count], key, ceiling);
+    make_nodes(hierarchy, &mut slots[..count], key, ceiling);
 }

@@ -1,20 +1,25 @@
-use Rattle.std.proofs.Common.{◌≡◌, ltb, ◌∙◌, rules}
-use Rattle.std.specs.Iterator.Adapters.{zip_first, zip_second}
-use Rattle.std.specs.Slice.Iter.{iter_rest}
-use Rattle.std.proofs.lemmas.Slice.Zip.{either_empty_from_Zip}
-use Rattle.paths.specs.Path.{ranked_before}
-use Rattle.paths.proofs.Order.{ended_level}
+use Rattle.std.proofs.Common.{◌≡◌, ap, ◌∙◌, refl, map, rules, tests}
+use Rattle.std.specs.Cmp.Lexicographic.{slice_cmp}
+use Rattle.std.specs.Ordering.{nat_cmp, is_lt}
+use Rattle.std.proofs.lemmas.Iterator.{YieldsList-from_slice, YieldsList-from_map}
+use Rattle.std.proofs.lemmas.Iterator.Consumers.{YieldsList-at}
+use Rattle.std.proofs.lemmas.Iterator.Search.{cmp_from_yields_List}
+use Rattle.paths.specs.Path.{rank_of, ranked_before}
+use Rattle.paths.proofs.Order.{ranked_by_cmp}
 use Rattle.paths.proofs.Names.{part_order}
 use Rattle.paths.proofs.comes_before.Goals as goal
 
-pub returns-then-rank : goal.returns-then-rank
-returns-then-rank c =
-    let decided : ltb c.rank-then-rank.result c.rank-then-rank-2.result ≡ ranked_before c.args.one.now c.args.other.now = search rules in
-    record { ranked = decided; named = λ p q. decided ∙ part_order c.args.one.now c.args.other.now p q }
-
 pub returns : goal.returns
 returns c =
-    let decided =
-    ended_level (iter_rest (zip_first c.loop-a.a-iterator)) (iter_rest (zip_second c.loop-a.a-iterator)) c.args.one.now c.args.other.now
-    (either_empty_from_Zip c.loop-a.a-iterator c.next.new.self c.next.result c.in-None.is c.next.ensures.steps) c.loop-a.invariant.2 c.loop-a.invariant.3 in
-    record { ranked = decided; named = λ p q. decided ∙ part_order c.args.one.now c.args.other.now p q }
+    let one = c.args.one.now in
+    let other = c.args.other.now in
+    let ranks : c.cmp.result ≡ slice_cmp nat_cmp (map rank_of one) (map rank_of other) =
+    cmp_from_yields_List (λ x y. y ≡ x) _ nat_cmp _ c.cmp.ensures.ran
+    (YieldsList-from_map _ rank_of (YieldsList-at c.map-ranks.ensures.source (YieldsList-from_slice one cc)) c.map-ranks.ensures.closure
+    (λ x r q k. search (rules, tests)))
+    (λ it e. YieldsList-at e
+    (YieldsList-from_map _ rank_of (YieldsList-at c.map.ensures.source (YieldsList-from_slice other cc)) c.map.ensures.closure
+    (λ x r q k. search (rules, tests))))
+    (λ x y. refl) in
+    let decided : c.is_lt.result ≡ ranked_before one other = c.is_lt.ensures ∙ ap is_lt ranks ∙ ranked_by_cmp one other in
+    record { ranked = decided; named = λ p q. decided ∙ part_order one other p q }

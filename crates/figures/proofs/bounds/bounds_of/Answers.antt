@@ -1,4 +1,5 @@
-use Rattle.std.proofs.Common.{refl}
+use Rattle.std.proofs.Common.{◌+◌, refl}
+use Rattle.std.proofs.lemmas.List.{take_rest}
 use Rattle.figures.proofs.Stored.{missing_answer, stored_answer, root_answer}
 use Rattle.figures.proofs.bounds.bounds_of.Goals as goal
 
@@ -8,23 +9,16 @@ returns-then-ancestry-gt0-clause-value g c =
     missing_answer (g.H.Hierarchy.means c.args.hierarchy.now) total e c.args.root c.args.stored.now c.args.key c.climb-ancestry.result s
     (c.climb-ancestry.ensures.formed s.formed c.args.root refl) c.if-ancestry-gt0.true
 
-pub returns-in-Some-clause-low : goal.returns-in-Some-clause-low
-returns-in-Some-clause-low g c =
-    c.node_bounds.ensures.low
-
-pub returns-in-Some-clause-value : goal.returns-in-Some-clause-value
-returns-in-Some-clause-value g c =
-    λ total e s h.
-    stored_answer (g.H.Hierarchy.means c.args.hierarchy.now) total e c.args.root c.args.stored.now c.args.key c.climb-ancestry.result s
-    (c.climb-ancestry.ensures.formed s.formed c.args.root refl) c.in-Some.at c.index-stored-at.result c.node_bounds.result c.if-ancestry-gt0.false
-    c.in-Some.is c.index-stored-at.is h c.node_bounds.ensures.value
-
-pub returns-in-None-clause-low : goal.returns-in-None-clause-low
-returns-in-None-clause-low g c =
-    c.root_bounds.ensures.low
-
-pub returns-in-None-clause-value : goal.returns-in-None-clause-value
-returns-in-None-clause-value g c =
+pub returns-in_default-clause-value : goal.returns-in_default-clause-value
+returns-in_default-clause-value g c =
     λ total e s h.
     root_answer (g.H.Hierarchy.means c.args.hierarchy.now) total e c.args.root c.args.stored.now c.args.key c.climb-ancestry.result s
-    (c.climb-ancestry.ensures.formed s.formed c.args.root refl) c.root_bounds.result c.if-ancestry-gt0.false c.in-None.is c.root_bounds.ensures.value
+    (c.climb-ancestry.ensures.formed s.formed c.args.root refl) c.as_node-node.result c.run_beneath.result.now c.node_bounds.result c.if-ancestry-gt0.false
+    c.in_default.is (cc) c.run_beneath.ensures c.node_bounds.ensures.value
+
+pub returns-clause-value : goal.returns-clause-value
+returns-clause-value g c =
+    λ total e s h.
+    stored_answer (g.H.Hierarchy.means c.args.hierarchy.now) total e c.args.root c.args.stored.now c.args.key c.climb-ancestry.result s
+    (c.climb-ancestry.ensures.formed s.formed c.args.root refl) c.in-Some.at c.index-stored-at.result _ c.run_beneath-2.result.now c.node_bounds-2.result c.if-ancestry-gt0.false
+    c.in-Some.is c.index-stored-at.is (take_rest c.args.stored.now (c.in-Some.at + 1)) h c.run_beneath-2.ensures c.node_bounds-2.ensures.value

@@ -1,12 +1,11 @@
 use Rattle.std.proofs.Common.{◌+◌, ◌-◌, ◌≤◌}
 use Rattle.model.specs.Answers.{SameTable}
-use Rattle.summary.specs.View.{view}
 use Rattle.pathlog.proofs.feeding.feed.Given as goal
 
 -- each counted line has moved the offset on
-abbrev pub invariant-loop-offset : goal.invariant-loop-offset
-invariant-loop-offset l =
-    SameTable (view l.initial.summary) (view l.summary) × (l.offset ≤ l.end) × (l.start + l.counted ≤ l.offset)
+abbrev pub invariant-loop-fed : goal.invariant-loop-fed
+invariant-loop-fed l =
+    SameTable l.initial.summary l.summary × (l.fed.offset ≤ l.end) × (l.start + l.fed.counted ≤ l.fed.offset)
 
-abbrev pub decreases-loop-offset : goal.decreases-loop-offset
-decreases-loop-offset l = l.end - l.offset
+abbrev pub decreases-loop-fed : goal.decreases-loop-fed
+decreases-loop-fed l = l.end - l.fed.offset

@@ -1,24 +1,13 @@
-use Rattle.std.proofs.Common.{arith}
-use Rattle.table.proofs.Positions.{between_all, between_after, between_before}
+use Rattle.std.proofs.Common.{rules}
+use Rattle.std.proofs.lemmas.List.Sorted.{IsPartitionPoint-from_clause}
+use Rattle.prefix.specs.Name.{name_before}
+use Rattle.model.specs.Summary.{fresh, name_at}
+use Rattle.table.proofs.Positions.{parted, point_counts}
 use Rattle.table.proofs.lookup.position.Goals as goal
 
-pub loop-low-init : goal.loop-low-init
-loop-low-init g c =
+pub returns-clause-value : goal.returns-clause-value
+returns-clause-value g c sorted =
     let m = g.H.Hierarchy.means c.args.hierarchy.now in
-    (omega arith, omega arith, between_all m c.args.stored.now (m.name_of c.args.key))
-
-pub loop-low-preserved-then-before : goal.loop-low-preserved-then-before
-loop-low-preserved-then-before g c =
-    let m = g.H.Hierarchy.means c.args.hierarchy.now in (
-      omega arith,
-      omega arith,
-      between_after m c.args.stored.now (m.name_of c.args.key) c.loop-low.low c.loop-low.high _ c.index-stored-middle.result (omega arith) c.if-before.ensures c.loop-low.invariant.2,
-    )
-
-pub loop-low-preserved : goal.loop-low-preserved
-loop-low-preserved g c =
-    let m = g.H.Hierarchy.means c.args.hierarchy.now in (
-      omega arith,
-      omega arith,
-      between_before m c.args.stored.now (m.name_of c.args.key) c.loop-low.low c.loop-low.high _ c.index-stored-middle.result (omega arith) c.if-before.ensures c.loop-low.invariant.2,
-    )
+    let p = m.name_of c.args.key in
+    let point = IsPartitionPoint-from_clause (λ n. name_before (name_at m n) p) _ _ c.partition_point.ensures.partitioned (parted m c.args.stored.now p sorted) (λ a r f k. search rules) in
+    point_counts m c.args.stored.now p _ (fresh c.args.key 0) c.partition_point.ensures.bound point

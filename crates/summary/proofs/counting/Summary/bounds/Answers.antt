@@ -1,16 +1,15 @@
-use Rattle.std.proofs.Common.{◌≡◌, take, rules}
-use Rattle.summary.specs.View.{view}
-use Rattle.summary.proofs.Steps.{in_use_part, bounds_refused, bounds_answered}
+use Rattle.std.proofs.Common.{◌≡◌, ap, refl, ◌∙◌, rules}
+use Rattle.model.specs.State.{State, state_tree}
+use Rattle.model.proofs.Handing.{tree_of}
+use Rattle.summary.proofs.Steps.{bounds_refused, bounds_answered}
 use Rattle.summary.proofs.counting.Summary.bounds.Goals as goal
 
 pub returns-then-not-is_valid-clause-defined : goal.returns-then-not-is_valid-clause-defined
 returns-then-not-is_valid-clause-defined g c =
-    let m = g.H.Hierarchy.means c.args.hierarchy.now in
-    bounds_refused m (view c.args.self.now) c.args.key _ (search rules) (search rules)
+    bounds_refused (g.H.Hierarchy.means c.args.hierarchy.now) c.args.self.now c.args.key _ refl (search rules)
 
 pub returns-clause-defined : goal.returns-clause-defined
 returns-clause-defined g c =
-    let m = g.H.Hierarchy.means c.args.hierarchy.now in
-    let table : c.in_use-used.new.self.nodes.now ≡ c.args.self.now.nodes.now = cc in
-    let stored = in_use_part c.args.self.now.nodes.now c.in_use-used.new.self.nodes.now c.in_use-used.result c.args.self.now.used table c.in_use-used.ensures.value in
-    bounds_answered m (view c.args.self.now) c.args.key _ (search rules) (take c.in_use-used.result c.in_use-used.new.self.nodes.now) c.bounds_in-lower.result stored (search rules) c.bounds_in-lower.ensures.value
+    let tree : tree_of c.self.inside.root c.stored.result.now ≡ state_tree c.args.self.now =
+    ap (tree_of c.self.inside.root) c.stored.ensures ∙ ap (λ (s : State _). tree_of (state_tree s).root c.args.self.now.nodes) c.self.view_is in
+    bounds_answered (g.H.Hierarchy.means c.args.hierarchy.now) c.args.self.now c.args.key _ refl (tree_of c.self.inside.root c.stored.result.now) c.bounds_of-lower.result tree (search rules) c.bounds_of-lower.ensures.value

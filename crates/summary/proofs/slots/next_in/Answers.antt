@@ -1,5 +1,0 @@
-use Rattle.std.proofs.Common.{take-append-drop, rules}
-use Rattle.summary.proofs.slots.next_in.Goals as goal
-
-pub returns : goal.returns
-returns g c = search (rules, take-append-drop)

@@ -1,3 +1,4 @@
 pub mod Reading
+pub mod LastSlash
 pub mod Order
 pub mod Names

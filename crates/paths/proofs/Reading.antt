@@ -1,101 +1,97 @@
--- What the bytes between the '/' tell of a part, and where the last '/' is.
-use Rattle.std.proofs.Common.{◌≡◌, ℕ, zero, suc, ◌+◌, ◌<◌, Bool, true, false, cond, not, ◌&&◌, ◌||◌, eqb, leb, List, [], ◌∷◌, length, get_or, Some, None, Option, sym, refl, ap, ◌∙◌, ⊎_elim, arith, count_by}
-use Rattle.std.specs.List.{list_all, slice_split, onto_first, between, AllWithin, HoldsAt}
-use Rattle.std.specs.Option.{MatchOption, unwrap_or}
-use Rattle.std.proofs.lemmas.Bool.{cases_Bool, false≢true, or_from, or_left, or_right, or_parts}
-use Rattle.std.proofs.lemmas.Bool.Decides.{nat_tests}
-use Rattle.std.proofs.lemmas.List.Splits.{length-slice_split}
-use Rattle.std.proofs.lemmas.Slice.{between_to_end}
-use Rattle.prefix.specs.Name.{Step, Name}
-use Rattle.paths.specs.declared.ByteClass.TheVariants.{KeyEnd, Plain, Outside}
-use Rattle.paths.specs.Path.{slash, class_of, is_plain, fills_segment, may_stand, head_of, steps_of, is_empty, all_stand, none_empty, is_segments, has_slash, last_slash}
-use Rattle.paths.specs.Laws.{past_slash, head_past_slash}
+-- What a walk from the end of a part to its front keeps.
+use Rattle.std.proofs.Common.{◌≡◌, ℕ, ◌+◌, ◌≤◌, Bool, true, false, cond, not, ◌&&◌, ◌||◌, eqb, leb, List, [], ◌∷◌, ◌++◌, length, Some, None, sym, refl, ap, ◌∙◌, ⊎_elim, arith}
+use Rattle.std.proofs.lemmas.Bool.{and_parts, cases_Bool, both_ways, cond-false}
+use Rattle.std.proofs.lemmas.List.{append_assoc, length-append}
+use Rattle.paths.specs.declared.ByteClass.{ByteClass}
+use Rattle.paths.specs.declared.ByteClass.TheVariants.{Slash, KeyEnd, Plain, Outside}
+use Rattle.paths.specs.Path.{slash, head_of, steps_of, is_empty, class_of, may_stand, all_stand, none_empty, is_part, segment_count}
+use Rattle.paths.specs.Laws.{at_slash, past_slash, part_holds}
 
--- cut at each '/', the bytes are those before the first '/' and the steps
-split_is : (bs : List ℕ) → slice_split (λ b. eqb b slash) bs ≡ head_of bs ∷ steps_of bs
-split_is [] = refl
-split_is (b ∷ bs) =
-    let rest = split_is bs in
+-- classes
+
+abbrev is_slash : ByteClass → Bool
+is_slash Slash = true
+is_slash KeyEnd = false
+is_slash Plain = false
+is_slash Outside = false
+
+other_class : (x y : Bool) → is_slash (cond x KeyEnd (cond y Plain Outside)) ≡ false
+other_class true y = refl
+other_class false true = refl
+other_class false false = refl
+
+class_is_slash : (b : ℕ) → is_slash (class_of b) ≡ eqb b slash
+class_is_slash b =
     ⊎_elim
-    (λ (t : eqb b slash ≡ true). rw t (ap (λ (x : Name). [] ∷ x) rest))
-    (λ (t : eqb b slash ≡ false). rw t (ap (onto_first b) rest))
+    (λ t. rw t)
+    (λ t. rw t (other_class (eqb b 63 || eqb b 35) (leb 0x21 b && leb b 0x7E)))
     (cases_Bool (eqb b slash))
 
-pub slash_count : (bs : List ℕ) → count_by (λ b. eqb b slash) bs ≡ length (steps_of bs)
-slash_count bs = omega (arith, length-slice_split (λ b. eqb b slash) bs, ap length (split_is bs))
+refused_class : (k : ByteClass) → (k ≡ Slash → ⊥) → (k ≡ Plain → ⊥) → may_stand k ≡ false
+refused_class Slash f g = absurd (f refl)
+refused_class KeyEnd f g = refl
+refused_class Plain f g = absurd (g refl)
+refused_class Outside f g = refl
 
--- some bytes that are plain fill a segment
-pub filled_by : (s : Step) (r : Bool) → eqb (length s) 0 ≡ false → r ≡ list_all (λ b. is_plain (class_of b)) s → r ≡ fills_segment s
-filled_by [] r some h = absurd (false≢true (sym some))
-filled_by (b ∷ s) r some h = h
+-- what has been read is s: all of it may stand, its steps are counted and not empty, and whether its head is filled
+abbrev pub Read : List ℕ → ℕ → Bool → Type 0
+Read s count filled =
+    (all_stand s ≡ true) × (none_empty (steps_of s) ≡ true) × (count ≡ length (steps_of s)) × (filled ≡ not (is_empty (head_of s)))
 
--- of a byte that is no '/'
-plain_stands : (x y : Bool) → is_plain (cond x KeyEnd (cond y Plain Outside)) ≡ may_stand (cond x KeyEnd (cond y Plain Outside))
-plain_stands true y = refl
-plain_stands false true = refl
-plain_stands false false = refl
+-- the bytes are those that are left and behind them those that have been read
+abbrev pub Walked : List ℕ → List ℕ → ℕ → Bool → Type 0
+Walked xs rest count filled = (s : List ℕ) × (xs ≡ rest ++ s) × Read s count filled
 
-step_more : (x l a s n : Bool) → (l && a) ≡ (s && n) → ((x && l) && a) ≡ (s && (x && n))
-step_more x l a s n e = grind (arith, nat_tests)
+moved : (xs front s : List ℕ) (b : ℕ) → xs ≡ (front ++ b ∷ []) ++ s → xs ≡ front ++ b ∷ s
+moved xs front s b e = e ∙ append_assoc front (b ∷ []) s
 
-byte_more : (x y l a s n : Bool) → x ≡ y → (l && a) ≡ (s && n) → ((x && l) && a) ≡ ((y && s) && n)
-byte_more x y l a s n e f = grind (arith, nat_tests)
-
-other_class : (b : ℕ) → eqb b slash ≡ false → is_plain (class_of b) ≡ may_stand (class_of b)
-other_class b t =
-    let other : class_of b ≡ cond (eqb b 63 || eqb b 35) KeyEnd (cond (leb 0x21 b && leb b 0x7E) Plain Outside) = rw t in
-    ap is_plain other ∙ plain_stands (eqb b 63 || eqb b 35) (leb 0x21 b && leb b 0x7E) ∙ ap may_stand (sym other)
-
--- the bytes before the first '/' are plain, and the steps fill segments
-filled : List ℕ → Bool
-filled bs = list_all (λ b. is_plain (class_of b)) (head_of bs) && list_all fills_segment (steps_of bs)
-
-filled_is : (bs : List ℕ) → filled bs ≡ (all_stand bs && none_empty (steps_of bs))
-unfolding filled
-filled_is [] = refl
-filled_is (b ∷ bs) =
+steps_few : (bs : List ℕ) → length (steps_of bs) ≤ length bs
+steps_few [] = omega arith
+steps_few (b ∷ bs) =
     ⊎_elim
-    (λ t. rw t (step_more (not (is_empty (head_of bs))) _ _ _ _ (filled_is bs)))
-    (λ t. simp (head_past_slash b bs t, past_slash b bs t) (byte_more _ _ _ _ _ _ (other_class b t) (filled_is bs)))
+    (λ t. omega (arith, ap length (at_slash b bs t), steps_few bs))
+    (λ t. omega (arith, ap length (past_slash b bs t), steps_few bs))
     (cases_Bool (eqb b slash))
 
--- segments begin with a '/', and steps follow
-after_slash : (bs : List ℕ) → list_all fills_segment (slice_split (λ x. eqb x slash) bs) ≡ is_segments (slash ∷ bs)
-unfolding filled
-after_slash bs = ap (list_all fills_segment) (split_is bs) ∙ step_more (not (is_empty (head_of bs))) _ _ _ _ (filled_is bs)
+pub count_few : (xs rest : List ℕ) (count : ℕ) (filled : Bool) → Walked xs rest count filled → count + length rest ≤ length xs
+count_few xs rest count filled h = omega (arith, steps_few h.0, ap length h.1, length-append rest h.0, h.2.2)
 
-pub segments_are : (bs : List ℕ) (r : Bool) → r ≡ list_all fills_segment (slice_split (λ x. eqb x slash) (between 1 (length bs) bs)) → get_or bs 0 0 ≡ slash → r ≡ is_segments bs
-segments_are [] r h e = absurd (omega arith)
-segments_are (b ∷ bs) r h e =
-    h
-    ∙ ap (λ (x : List ℕ). list_all fills_segment (slice_split (λ x. eqb x slash) x)) (between_to_end (b ∷ bs) 1 (length (b ∷ bs)) (omega arith))
-    ∙ after_slash bs ∙ ap (λ n. is_segments (n ∷ bs)) (sym e)
+-- what stands at the end of a part
 
--- the last '/'
+back_stands : (front s : List ℕ) → all_stand (front ++ s) ≡ true → all_stand s ≡ true
+back_stands [] s e = e
+back_stands (b ∷ bs) s e = back_stands bs s (and_parts (may_stand (class_of b)) (all_stand (bs ++ s)) e).1
 
-abbrev pub NoSlash : List ℕ → ℕ → Type 0
-NoSlash bs low = AllWithin (λ b. eqb b slash ≡ false) bs low (length bs)
+back_filled : (front s : List ℕ) → none_empty (steps_of (front ++ s)) ≡ true → none_empty (steps_of s) ≡ true
+back_filled [] s e = e
+back_filled (b ∷ bs) s e =
+    ⊎_elim
+    (λ t. back_filled bs s (and_parts (not (is_empty (head_of (bs ++ s)))) (none_empty (steps_of (bs ++ s))) (sym (ap none_empty (at_slash b (bs ++ s) t)) ∙ e)).1)
+    (λ t. back_filled bs s (sym (ap none_empty (past_slash b (bs ++ s) t)) ∙ e))
+    (cases_Bool (eqb b slash))
 
-none_within : (bs : List ℕ) → ((k : ℕ) → k < length bs → eqb (get_or bs k 0) slash ≡ false) → has_slash bs ≡ false
-none_within [] f = refl
-none_within (b ∷ bs) f =
-    or_from (eqb b slash) (has_slash bs) (f 0 (omega arith)) (none_within bs (λ k h. f (suc k) (omega arith)))
+not_counted : (xs : List ℕ) → (is_part xs ≡ true → ⊥) → None ≡ segment_count xs
+not_counted xs f =
+    ⊎_elim
+    (λ e. absurd (f e))
+    (λ e. sym (cond-false (is_part xs) (Some (length (steps_of xs))) None e))
+    (cases_Bool (is_part xs))
 
-some_within : (bs : List ℕ) (i : ℕ) → eqb (get_or bs i 0) slash ≡ true → has_slash bs ≡ true
-some_within [] i e = absurd (false≢true e)
-some_within (b ∷ bs) zero e = or_left (eqb b slash) (has_slash bs) e
-some_within (b ∷ bs) (suc i) e = or_right (eqb b slash) (has_slash bs) (some_within bs i e)
+pub refused_byte : (xs rest front : List ℕ) (b count : ℕ) (filled : Bool) (k : ByteClass) → rest ≡ front ++ b ∷ [] → k ≡ class_of b → (k ≡ Slash → ⊥) → (k ≡ Plain → ⊥) → Walked xs rest count filled → None ≡ segment_count xs
+refused_byte xs rest front b count filled k last e f g h =
+    let whole = moved xs front h.0 b (h.1 ∙ ap (λ (r : List ℕ). r ++ h.0) last) in
+    not_counted xs
+    (λ part.
+    let stand = back_stands front (b ∷ h.0) (sym (ap all_stand whole) ∙ (part_holds xs part).1) in
+    both_ways (may_stand (class_of b)) (sym (ap may_stand e) ∙ refused_class k f g) (and_parts (may_stand (class_of b)) (all_stand h.0) stand).0)
 
-last_none : (bs : List ℕ) → has_slash bs ≡ false → 0 ≡ last_slash bs
-last_none [] e = refl
-last_none (b ∷ bs) e = rw (or_parts (eqb b slash) (has_slash bs) e).1
-
-last_at : (bs : List ℕ) (i : ℕ) → eqb (get_or bs i 0) slash ≡ true → ((k : ℕ) → i < k → k < length bs → eqb (get_or bs k 0) slash ≡ false) → i ≡ last_slash bs
-last_at [] i e f = absurd (false≢true e)
-last_at (b ∷ bs) zero e f = rw (none_within bs (λ k h. f (suc k) (omega arith) (omega arith)))
-last_at (b ∷ bs) (suc i) e f =
-    rw (some_within bs i e) (ap suc (last_at bs i e (λ k h g. f (suc k) (omega arith) (omega arith))))
-
-pub last_is : (bs : List ℕ) (r : Option ℕ) → MatchOption r (NoSlash bs 0) (λ i. HoldsAt (λ b. eqb b slash ≡ true) bs i × NoSlash bs (i + 1)) → unwrap_or r 0 ≡ last_slash bs
-last_is bs None f = last_none bs (none_within bs (λ k h. f k 0 (omega arith) h))
-last_is bs (Some i) f = last_at bs i (f.0 0) (λ k h g. f.1 k 0 (omega arith) g)
+pub refused_empty : (xs rest front : List ℕ) (b count : ℕ) (filled : Bool) → rest ≡ front ++ b ∷ [] → Slash ≡ class_of b → filled ≡ false → Walked xs rest count filled → None ≡ segment_count xs
+refused_empty xs rest front b count filled last e f h =
+    let t : eqb b slash ≡ true = sym (class_is_slash b) ∙ sym (ap is_slash e) in
+    let s = h.0 in
+    let whole = moved xs front s b (h.1 ∙ ap (λ (r : List ℕ). r ++ s) last) in
+    not_counted xs
+    (λ part.
+    let full : none_empty (head_of s ∷ steps_of s) ≡ true =
+    sym (ap none_empty (at_slash b s t)) ∙ back_filled front (b ∷ s) (sym (ap (λ (x : List ℕ). none_empty (steps_of x)) whole) ∙ (part_holds xs part).2) in
+    both_ways (not (is_empty (head_of s))) (sym h.2.3 ∙ f) (and_parts (not (is_empty (head_of s))) (none_empty (steps_of s)) full).0)

@@ -1,6 +1,5 @@
 -- A path as bytes: its segments, its steps, and the order of paths by their steps.
 use Rattle.std.specs.Prelude.{ℕ, suc, Bool, true, false, cond, not, ◌&&◌, ◌||◌, List, [], ◌∷◌, length, Some, None, Option, ◌==◌, nat_le, nat_lt}
-use Rattle.std.specs.List.{list_all}
 use Rattle.prefix.specs.Name.{Step, Name}
 use Rattle.paths.specs.declared.ByteClass.{ByteClass}
 use Rattle.paths.specs.declared.ByteClass.TheVariants.{Slash, KeyEnd, Plain, Outside}
@@ -19,12 +18,6 @@ may_stand KeyEnd = false
 may_stand Plain = true
 may_stand Outside = false
 
-abbrev pub is_plain : ByteClass → Bool
-is_plain Slash = false
-is_plain KeyEnd = false
-is_plain Plain = true
-is_plain Outside = false
-
 -- the bytes before the first '/', and the step after each '/'
 abbrev pub head_of : List ℕ → Step
 head_of [] = []
@@ -41,10 +34,6 @@ is_empty (x ∷ xs) = false
 abbrev pub all_stand : List ℕ → Bool
 all_stand [] = true
 all_stand (b ∷ bs) = may_stand (class_of b) && all_stand bs
-
--- the bytes after a '/' make a segment with it
-abbrev pub fills_segment : Step → Bool
-fills_segment s = not (is_empty s) && list_all (λ b. is_plain (class_of b)) s
 
 abbrev pub none_empty : Name → Bool
 none_empty [] = true

@@ -5,9 +5,8 @@
 #![tactic(auto)]
 
 ghost use Rattle.std.specs.Prelude.{◌≡◌, true, length, ◌==◌, Some, None, option_copied, if◌then◌else◌};
-ghost use Rattle.std.specs.List.{list_all, slice_split};
 ghost use Rattle.prefix.specs.Name.{same_name, name_before};
-ghost use Rattle.paths.specs.Path.{slash, class_of, is_plain, fills_segment, is_segments, is_part, steps_of, segment_count, last_slash, rank_of, ranked_before};
+ghost use Rattle.paths.specs.Path.{class_of, is_part, steps_of, segment_count, last_slash, rank_of, ranked_before};
 ghost use Rattle.paths.specs.Hierarchy.{lies, bytes_at, bytes_in, is_path, path_name, root_place, shortened, parent_place};
 ghost use Rattle.paths.specs.Meaning.{path_meaning};
 
@@ -47,57 +46,31 @@ pub fn class_of(byte: u8) -> ByteClass
     }
 }
 
-// Whether the byte fills a segment.
-fn is_plain(byte: u8) -> bool
-    ensures { result ≡ is_plain (class_of byte) }
-{
-    class_of(byte) == ByteClass::Plain
-}
-
-// Whether the bytes are one step: some, each of which fills a segment.
-fn is_step(bytes: &[u8]) -> bool
-    ensures { result ≡ fills_segment bytes.now }
-{
-    !bytes.is_empty() && bytes.iter().all(|byte| is_plain(*byte))
-}
-
-// Whether the bytes between the '/' are steps, those before the first '/' and after the last too.
-fn are_steps(bytes: &[u8]) -> bool
-    ensures { result ≡ list_all fills_segment (slice_split (λ b. b == slash) bytes.now) }
-{
-    bytes.split(|byte| *byte == b'/').all(is_step)
-}
-
-// How many '/' there are. A step follows each.
-#[tactic(auto, using(crate::proofs::Reading::slash_count))]
-fn slashes(bytes: &[u8]) -> usize
-    ensures { result ≡ length (steps_of bytes.now) }
-{
-    bytes.iter().filter(|byte| **byte == b'/').count()
-}
-
-// Whether the bytes are none, or segments: each a '/' and then a step.
-#[tactic(auto, using(crate::proofs::Reading::segments_are))]
-fn are_segments(part: &[u8]) -> bool
-    ensures { result ≡ is_segments part.now }
-{
-    match part {
-        [] => true,
-        [b'/', rest @ ..] => are_steps(rest),
-        _ => false,
-    }
-}
-
-// How many segments the bytes have, or none where they are no path of at most eight segments.
+// How many segments the bytes have, or none where they are no path of at most eight segments. One walk from the end to the
+// front, since a segment's '/' then says at once whether the segment is empty. Every look-up of a path asks for this: as a
+// `split` and two chains over its pieces it made a whole report take a third longer, so the flag beside the count stays.
 fn segments(part: &[u8]) -> Option<usize>
     ensures { result ≡ segment_count part.now }
 {
-    let count = slashes(part);
-    (are_segments(part) && count <= PATH_DEPTH).then_some(count)
+    let mut count: usize = 0;
+    let mut filled = false;
+    let mut rest = part;
+    while let Some((byte, front)) = rest.split_last() {
+        match class_of(*byte) {
+            ByteClass::Slash if filled => {
+                filled = false;
+                count += 1;
+            }
+            ByteClass::Plain => filled = true,
+            _ => return None,
+        }
+        rest = front;
+    }
+    (!filled && count <= PATH_DEPTH).then_some(count)
 }
 
 // Where the last segment starts; 0 where there is none. The front up to there is the part without its last segment.
-#[tactic(auto, using(crate::proofs::Reading::last_is))]
+#[tactic(auto, using(crate::proofs::LastSlash::last_is))]
 fn last_slash(part: &[u8]) -> usize
     ensures { result ≡ last_slash part.now }
 {

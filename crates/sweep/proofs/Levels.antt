@@ -1,10 +1,9 @@
 -- Level after level, from the deepest.
 use Rattle.std.proofs.Common.{◌≡◌, ℕ, suc, ◌-◌, ◌<◌, ◌≤◌, List, [], ◌++◌, length, take, sym, ap, ◌∙◌, subst, arith}
-use Rattle.std.proofs.lemmas.List.{length-append, take_all, take-append-le}
+use Rattle.std.proofs.lemmas.List.{length-append, take-append-le}
 use Rattle.prefix.specs.Meaning.{Meaning}
 use Rattle.model.specs.declared.Node.{Node}
 use Rattle.model.specs.declared.Root.{Root}
-use Rattle.sweep.specs.declared.SweptTree.{SweptTree}
 use Rattle.model.specs.State.{Tree, largest_total}
 use Rattle.model.specs.Summary.{folded_among, folded_from, swept_tree}
 use Rattle.model.specs.Sound.{SoundTree}
@@ -26,21 +25,6 @@ Folds m e level r ns r' ns' =
     (total : ℕ) → SoundTree m total e (tree_of r ns) → e ≤ largest_total → tree_of r' ns' ≡ folded_among m e level ns (tree_of r ns)
 
 module _ {K : Type 0} (m : Meaning K) (e : ℕ) (start : Tree K) where
-  pub levels_start : (levels : ℕ) (t : SweptTree) → levels ≡ m.depth → t ≡ record { kept = length start.nodes; root = start.root } → Levels m e start levels t.kept t.root start.nodes
-  levels_start levels t all first =
-      let root : t.root ≡ start.root = ap (λ (x : SweptTree). x.root) first in
-      let full : t.kept ≡ length start.nodes = ap (λ (x : SweptTree). x.kept) first in
-      let same : tree_of t.root (take t.kept start.nodes) ≡ start =
-      ap (tree_of t.root) (take_all t.kept start.nodes (omega arith)) ∙ ap (λ (r : Root). tree_of r start.nodes) root in
-      record {
-        within = omega arith;
-        left = λ total s small.
-            record {
-              sound = subst (SoundTree m total e) (sym same) s;
-              makes = ap (λ k. folded_from m e k (tree_of t.root (take t.kept start.nodes))) all ∙ ap (folded_from m e m.depth) same;
-            };
-      }
-
   pub levels_more : (levels kept level kept' : ℕ) (r r' : Root) (nodes part back : List (Node K)) → 0 < levels → level ≡ levels → kept' ≤ length part → Folds m e level r (take kept nodes) r' (take kept' part) → Levels m e start levels kept r nodes → Levels m e start (levels - 1) kept' r' (part ++ back)
   levels_more levels kept level kept' r r' nodes part back some here fits folds w =
       let t : Tree K = tree_of r (take kept nodes) in
@@ -58,8 +42,3 @@ module _ {K : Type 0} (m : Meaning K) (e : ℕ) (start : Tree K) where
               makes = ap (folded_from m e (levels - 1)) same ∙ ap (λ k. folded_from m e k t) (sym up) ∙ h.makes;
             };
       }
-
-  pub levels_end : (levels kept : ℕ) (r : Root) (nodes : List (Node K)) → levels ≤ 0 → Levels m e start levels kept r nodes → (total : ℕ) → SoundTree m total e start → e ≤ largest_total → tree_of r (take kept nodes) ≡ swept_tree m e start
-  levels_end levels kept r nodes none w total s small =
-      let zero_left : 0 ≡ levels = omega arith in
-      ap (λ k. folded_from m e k (tree_of r (take kept nodes))) zero_left ∙ (w.left total s small).makes

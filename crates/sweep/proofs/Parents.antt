@@ -1,7 +1,7 @@
 -- The last kept node of the level above is the parent, and what a node hands up to it is what the definition says.
 use Rattle.std.proofs.Common.{◌≡◌, ℕ, ◌+◌, ◌<◌, ◌≤◌, true, List, [], ◌∷◌, ◌++◌, map, length, get_or, set, Some, None, Option, sym, refl, ap, ◌∙◌, subst, ⊎_elim, arith}
 use Rattle.std.specs.List.{AllByRecursion}
-use Rattle.std.proofs.lemmas.List.{append_assoc, map-append, length-append, length-set, get_or_at, set_at}
+use Rattle.std.proofs.lemmas.List.{append_assoc, map-append, length-set, get_or_at, set_at}
 use Rattle.std.proofs.ByRecursion.{All-push, All-map}
 use Rattle.std.proofs.lemmas.List.Sums.{sum_by-cons, sum_by-append}
 use Rattle.std.proofs.lemmas.Bool.{false≢true, or_cases}
@@ -14,7 +14,7 @@ use Rattle.model.specs.State.{Tree, largest_total}
 use Rattle.model.specs.Weights.{Weighted, total_of}
 use Rattle.model.specs.Summary.{among, is_present, name_at, names_of, took, root_took, taken, handed, folded, owns}
 use Rattle.model.specs.Sound.{Placed, Formed, Stands, SoundTree}
-use Rattle.sweep.specs.Handing.{capped, load_of, takes, root_takes, Within, HandedUp}
+use Rattle.sweep.specs.Handing.{capped, load_of, takes, root_takes, HandedUp}
 use Rattle.model.proofs.Among.{sorted_left}
 use Rattle.model.proofs.Names.{parent_earlier, last_is_parent}
 use Rattle.model.proofs.Nodes.{taken_at}
@@ -49,11 +49,6 @@ all_front P (x ∷ xs) ys h = (h.0, all_front P xs ys h.1)
 
 module _ {K : Type 0} (m : Meaning K) where
   -- THE PARENT AMONG THE KEPT NODES
-
-  pub parent_within : (l : ℕ) (ns : List (Node K)) (p : Option ℕ) → ParentIs m l ns p → Within (length ns) p
-  parent_within l ns None h = tt
-  parent_within l ns (Some at) h =
-      omega (arith, h.place, ap length h.parts, length-append h.front (h.node ∷ h.back))
 
   pub parent_here : (l : ℕ) (ns : List (Node K)) (n : Node K) (at : ℕ) → length ns ≡ at → length (name_at m n) ≡ l → ParentIs m l (ns ++ n ∷ []) (Some at)
   parent_here l ns n at e f =

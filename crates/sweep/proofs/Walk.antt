@@ -1,6 +1,6 @@
 -- One walk over the nodes folds a level. The kept nodes, at the front, and those ahead are together the tree that the folds
 -- so far made.
-use Rattle.std.proofs.Common.{◌≡◌, ℕ, ◌+◌, ◌-◌, ◌<◌, ◌≤◌, Bool, true, false, cond, not, ◌&&◌, eqb, ltb, leb, ◌⊎◌, List, [], ◌∷◌, ◌++◌, length, get_or, take, drop, set, Some, None, Option, sym, refl, ap, ◌∙◌, subst, ⊎_elim, arith}
+use Rattle.std.proofs.Common.{◌≡◌, ℕ, ◌+◌, ◌-◌, ◌<◌, ◌≤◌, Bool, true, false, cond, not, ◌&&◌, eqb, ltb, leb, ◌⊎◌, List, [], ◌∷◌, ◌++◌, length, get_or, take, drop, set, Some, Option, sym, refl, ap, ◌∙◌, subst, ⊎_elim, arith}
 use Rattle.std.proofs.lemmas.List.{append-nil, append_assoc, length-take-le, take_at, take_more_set, drop_all, drop_more, drop-set-lt, get_or_default}
 use Rattle.std.proofs.lemmas.Slice.{drop-append-drop}
 use Rattle.std.proofs.lemmas.Bool.{and_from, and_left, and_right, lt-ltb, le-leb, lt-leb, eq-eqb, ne_eqb, cond-true, cond-false}
@@ -128,10 +128,6 @@ module _ {K : Type 0} (m : Meaning K) (e level : ℕ) (start : Tree K) where
       }
 
   -- THE WALK
-
-  pub walk_starts : Walk m e level start 0 0 None start.root start.nodes
-  walk_starts =
-      record { behind = omega arith; last = tt; walked = λ total s small. record { sound = s; makes = refl } }
 
   -- the values after a turn, by what they are
   pub walk_at : (i kept kept' : ℕ) (p p' : Option ℕ) (r r' : Root) (nodes nodes' : List (Node K)) → kept' ≡ kept → p' ≡ p → r' ≡ r → nodes' ≡ nodes → Walk m e level start i kept p r nodes → Walk m e level start i kept' p' r' nodes'

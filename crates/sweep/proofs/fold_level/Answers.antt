@@ -1,21 +1,8 @@
-use Rattle.std.proofs.Common.{◌+◌, ◌-◌, ◌<◌, ◌++◌, length, take, drop, set, inl, inr, arith, rules}
+use Rattle.std.proofs.Common.{◌+◌, ◌<◌, ◌++◌, length, drop, set, inl, inr, arith}
 use Rattle.model.proofs.Handing.{tree_of}
-use Rattle.sweep.proofs.Parents.{parent_within}
-use Rattle.sweep.proofs.Walk.{Stays, Goes, Next, steps_read, walk_at, walk_starts, walk_stays, walk_goes, walk_ends}
+use Rattle.sweep.proofs.Walk.{Stays, Goes, Next, steps_read, walk_at, walk_stays, walk_goes, walk_ends}
 use Rattle.sweep.proofs.fold_level.Goals as goal
 use Rattle.sweep.proofs.fold_level.Goals.{then-depth-level+then-load-error+then-not-is_deeper, else-depth-level, else-depth-level-via-then-depth-level+then-load-error+else-not-is_deeper, else-depth-level-via-then-depth-level+else-load-error, else-depth-level-via-else-depth-level, then-depth-above, else-depth-above}
-
-pub loop-i-init : goal.loop-i-init
-loop-i-init g c =
-    walk_starts (g.H.Hierarchy.means c.args.hierarchy.now) c.args.error c.args.level (tree_of c.args.root c.args.nodes.now)
-
-pub hand_up-root-requires : goal.hand_up-root-requires
-hand_up-root-requires g c =
-    parent_within (g.H.Hierarchy.means c.args.hierarchy.now) (c.args.level - 1) (take c.loop-i.kept c.loop-i.nodes) c.loop-i.parent c.loop-i.invariant.last
-
-pub offset_bounds-nodes-kept : goal.offset_bounds-nodes-kept
-offset_bounds-nodes-kept g c =
-    let less : c.loop-i.kept < length c.args.nodes.now = omega (arith, c.loop-i.invariant.behind) in search rules
 
 pub loop-i-preserved : goal.loop-i-preserved
 loop-i-preserved g c =

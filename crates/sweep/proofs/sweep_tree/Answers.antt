@@ -1,11 +1,7 @@
 use Rattle.std.proofs.Common.{◌+◌, ◌-◌, ◌≤◌, length, drop, arith}
 use Rattle.model.proofs.Handing.{tree_of}
-use Rattle.sweep.proofs.Levels.{levels_start, levels_more, levels_end}
+use Rattle.sweep.proofs.Levels.{levels_more}
 use Rattle.sweep.proofs.sweep_tree.Goals as goal
-
-pub loop-above-init : goal.loop-above-init
-loop-above-init g c =
-    levels_start (g.H.Hierarchy.means c.args.hierarchy.now) c.args.error (tree_of c.args.root c.args.nodes.now) c.depth_limit-above.result c.all_kept-swept.result c.depth_limit-above.ensures c.all_kept-swept.ensures
 
 pub loop-above-preserved : goal.loop-above-preserved
 loop-above-preserved g c =
@@ -13,11 +9,3 @@ loop-above-preserved g c =
     let f = c.fold_level-swept in
     let fits : f.result.kept ≤ length f.new.nodes = omega (arith, f.auto.nodes) in
     levels_more (g.H.Hierarchy.means c.args.hierarchy.now) c.args.error (tree_of c.args.root c.args.nodes.now) l.above l.swept.kept (l.above - 1 + 1) f.result.kept l.swept.root f.result.root l.nodes f.new.nodes (drop l.swept.kept l.nodes) c.loop-above-test.true (omega (arith, c.loop-above-test.true)) fits f.ensures.value l.invariant
-
-pub returns : goal.returns
-returns g c =
-    record {
-      within = omega (arith, c.loop-above.invariant.within);
-      value =
-          levels_end (g.H.Hierarchy.means c.args.hierarchy.now) c.args.error (tree_of c.args.root c.args.nodes.now) c.loop-above.above c.loop-above.swept.kept c.loop-above.swept.root c.loop-above.nodes c.loop-above-test.false c.loop-above.invariant;
-    }

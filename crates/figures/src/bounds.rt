@@ -20,15 +20,15 @@ fn run_len<K: Copy, H: Hierarchy<Key = K>>(hierarchy: &H, nodes: &[Node<K>], lev
         .count()
 }
 
-// The nodes beneath a prefix, from its node and the nodes after it.
+// The nodes beneath a prefix of a level, from the nodes after its own.
 pub(crate) fn run_beneath<'a, K: Copy, H: Hierarchy<Key = K>>(
     hierarchy: &H,
-    node: Node<K>,
+    level: usize,
     after: &'a [Node<K>],
 ) -> &'a [Node<K>]
-    ensures { result.now ≡ take_while (λ n. nat_lt (length (name_at (H.Hierarchy.means hierarchy.now) node)) (length (name_at (H.Hierarchy.means hierarchy.now) n))) after.now }
+    ensures { result.now ≡ take_while (λ n. nat_lt level (length (name_at (H.Hierarchy.means hierarchy.now) n))) after.now }
 {
-    &after[..run_len(hierarchy, after, hierarchy.level(node.key))]
+    &after[..run_len(hierarchy, after, level)]
 }
 
 // The own counts of a run.
@@ -69,8 +69,10 @@ pub fn bounds_of<K: Copy, H: OrderedHierarchy<Key = K>>(
     }
     let Some(at) = ancestry.nearest else {
         let node = root.as_node(hierarchy.root());
-        return node_bounds(node, run_beneath(hierarchy, node, stored));
+        let level = hierarchy.level(node.key);
+        return node_bounds(node, run_beneath(hierarchy, level, stored));
     };
     let node = stored[at];
-    node_bounds(node, run_beneath(hierarchy, node, &stored[at + 1..]))
+    let level = hierarchy.level(node.key);
+    node_bounds(node, run_beneath(hierarchy, level, &stored[at + 1..]))
 }

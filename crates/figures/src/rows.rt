@@ -1,6 +1,6 @@
 // The rows of the heavy prefixes, in name order: each with what is left of its count once the listed prefixes beneath it
 // are taken out.
-ghost use Rattle.std.specs.Prelude.{◌≡◌, ◌≤◌, ◌∷◌, true, not, length, drop, IfSome};
+ghost use Rattle.std.specs.Prelude.{◌≡◌, ◌<◌, ◌≤◌, ◌∷◌, true, not, length, drop, IfSome};
 ghost use Rattle.std.specs.List.{All};
 ghost use Rattle.prefix.specs.Name.{name_before};
 ghost use Rattle.model.specs.State.{is_heavy};
@@ -11,32 +11,15 @@ ghost use Rattle.figures.specs.Listed.{root_node, IsListed, IsAnyListed};
 use super::bounds::{node_bounds, run_beneath};
 use model::{Node, Root};
 use prefix::{Hierarchy, LEVELS, OrderedHierarchy};
-use std::alloc::AllocError;
 
-// A listed prefix: both bounds of its count, and its discounted count.
-#[derive(Copy)]
+// A listed prefix: both bounds of its count, and its discounted count. That the lower bound is at most the upper stands in the
+// clauses of what answers a row: whoever makes a row of their own may put any figures in it.
+#[derive(Clone, Copy)]
 pub struct Row<K> {
     pub key: K,
     pub lower: u64,
     pub upper: u64,
     pub discounted: u64,
-    pub ghost ordered: { lower ≤ upper },
-}
-
-// By hand: beside a ghost field `Clone` can't be derived.
-impl<K: Clone> Clone for Row<K> {
-    ghost is_clone = { λ x y. K.is_clone x.key y.key × (y.lower ≡ x.lower) × (y.upper ≡ x.upper) × (y.discounted ≡ x.discounted) };
-
-    ghost is_infallible = { λ x. K.is_infallible x.key };
-
-    fn clone(&self) -> Result<Self, AllocError> {
-        Ok(Row {
-            key: self.key.clone()?,
-            lower: self.lower,
-            upper: self.upper,
-            discounted: self.discounted,
-        })
-    }
 }
 
 // The count from which a prefix is heavy, as a share of the one summary's total.
@@ -74,19 +57,22 @@ fn weigh<K: Copy, H: Hierarchy<Key = K>>(
     }
 }
 
-// The discounted count of a prefix, from its node and the nodes beneath it. Those are weighed the last first, and in
+// The discounted count of a prefix of a level, from its node and the nodes beneath it. Those are weighed the last first, and in
 // the end what is left at its level is what is left beneath it.
 fn discounted_count<K: Copy, H: Hierarchy<Key = K>>(
     hierarchy: &H,
     node: Node<K>,
+    level: usize,
     run: &[Node<K>],
     threshold: Threshold,
-) -> u64 {
+) -> u64
+    requires { level < 33 }
+{
     let mut left = [0; LEVELS];
     for beneath in run.iter().rev() {
         weigh(hierarchy, *beneath, threshold, &mut left);
     }
-    node.own.saturating_add(left[hierarchy.level(node.key)])
+    node.own.saturating_add(left[level])
 }
 
 // The row of a prefix, from its node and the nodes after it, if it is listed.
@@ -96,10 +82,12 @@ fn node_row<K: Copy, H: Hierarchy<Key = K>>(
     after: &[Node<K>],
     threshold: Threshold,
 ) -> Option<Row<K>>
-    ensures { IfSome result (λ row. IsListed threshold.share threshold.total row.key row.discounted node) }
+    ensures low { IfSome result (λ row. row.lower ≤ row.upper) }
+    ensures listed { IfSome result (λ row. IsListed threshold.share threshold.total row.key row.discounted node) }
 {
-    let run = run_beneath(hierarchy, node, after);
-    let discounted = discounted_count(hierarchy, node, run, threshold);
+    let level = hierarchy.level(node.key);
+    let run = run_beneath(hierarchy, level, after);
+    let discounted = discounted_count(hierarchy, node, level, run, threshold);
     if !threshold.is_met_by(discounted.saturating_add(node.slack)) {
         return None;
     }
@@ -134,7 +122,8 @@ fn row_from<K: Copy, H: Hierarchy<Key = K>>(
     stored: &[Node<K>],
     threshold: Threshold,
 ) -> Option<Row<K>>
-    ensures { IfSome result (λ row. IsAnyListed threshold.share threshold.total row.key row.discounted stored.now) }
+    ensures low { IfSome result (λ row. row.lower ≤ row.upper) }
+    ensures listed { IfSome result (λ row. IsAnyListed threshold.share threshold.total row.key row.discounted stored.now) }
 {
     let mut rest = stored;
     while let Some((node, after)) = rest.split_first() {
@@ -154,6 +143,7 @@ pub fn next_row<K: Copy, H: OrderedHierarchy<Key = K>>(
     after: Option<K>,
     threshold: Threshold,
 ) -> Option<Row<K>>
+    ensures low { IfSome result (λ row. row.lower ≤ row.upper) }
     ensures listed { IfSome result (λ row. IsAnyListed threshold.share threshold.total row.key row.discounted (root_node (H.Hierarchy.means hierarchy.now) root ∷ stored.now)) }
     ensures later { Sorted (names_of (H.Hierarchy.means hierarchy.now) stored.now) → IfSome after (λ key. IfSome result (λ row. name_before ((H.Hierarchy.means hierarchy.now).name_of key) ((H.Hierarchy.means hierarchy.now).name_of row.key) ≡ true)) }
 {

@@ -36,11 +36,10 @@ fn key_part(path: &[u8]) -> &[u8]
     part.strip_suffix(b"/").unwrap_or(part)
 }
 
-// Whether a '/' is followed by another or by nothing.
+// Whether a '/' is followed by another or by nothing. Pair by pair and not by `split`, which takes longer over the short
+// segments of a path.
 fn has_empty_segment(key: &[u8]) -> bool {
-    key.split(|byte| *byte == b'/')
-        .skip(1)
-        .any(|segment| segment.is_empty())
+    key.ends_with(b"/") || key.windows(2).any(|pair| matches!(pair, [b'/', b'/']))
 }
 
 // How many bytes the first eight segments have: the ninth starts at the ninth '/'.

@@ -237,7 +237,9 @@ impl<'a, K: Copy> Summary<'a, K> {
         &self,
         hierarchy: &H,
         after: Option<K>,
-    ) -> Option<Row<K>> {
+    ) -> Option<Row<K>>
+        ensures { IfSome result (λ row. row.lower ≤ row.upper) }
+    {
         next_row(hierarchy, self.stored(), self.root, after, self.threshold())
     }
 }

@@ -43,7 +43,8 @@ impl<'a, K: Copy> Listing<'a, K> {
 
     // The row of the listed prefix whose name comes before all others; none where nothing is listed.
     pub fn first<H: OrderedHierarchy<Key = K>>(&mut self, hierarchy: &H) -> Option<Row<K>>
-        ensures { self.new ≡ self.old }
+        ensures same { self.new ≡ self.old }
+        ensures low { IfSome result (λ row. row.lower ≤ row.upper) }
     {
         self.summary.next_row(hierarchy, None)
     }
@@ -56,6 +57,7 @@ impl<'a, K: Copy> Listing<'a, K> {
     ) -> Result<Option<Row<K>>, Refusal>
         ensures same { self.new ≡ self.old }
         ensures cases { RowsAfter (H.Hierarchy.means hierarchy.now) key result }
+        ensures low { IfOk result (λ next. IfSome next (λ row. row.lower ≤ row.upper)) }
     {
         if !hierarchy.is_valid(key) {
             return Err(Refusal::KeyNotValid);

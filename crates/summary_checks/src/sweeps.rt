@@ -1,9 +1,9 @@
-// Two sweeps of one table, worked out by hand: one under a root that has counted nothing, one under a root that has. Both
-// leave the same nodes and hand the same up.
+// Both sweeps of one table, worked out by hand: the one walk, and level by level under a root that has counted nothing and
+// under a root that has. All leave the same nodes and hand the same up.
 use super::steps::{Slot, check_front, node};
 use model::{Node, Root};
 use octets::{AddressPrefix, Octets};
-use sweep::sweep_tree;
+use sweep::{sweep_nodes, sweep_tree};
 
 const BEFORE: [Slot; 12] = [
     ([10, 0, 0, 0], 8, 2, 0, 2),
@@ -39,13 +39,17 @@ fn table() -> [Node<AddressPrefix>; 12] {
 #[test]
 fn both_sweeps_leave_the_same_tree(rt: HostRuntime) {
     let mut walked = table();
+    let swept = sweep_nodes(&Octets, &mut walked, 2);
+    assert!(rt; swept.kept == 7 && swept.own == 1 && swept.ceiling == 1);
+    let mut bare = table();
     let root = Root { own: 0, ceiling: 0 };
-    let swept = sweep_tree(&Octets, &mut walked, root, 2);
-    assert!(rt; swept.kept == 7 && swept.root.own == 1 && swept.root.ceiling == 1);
+    let tree = sweep_tree(&Octets, &mut bare, root, 2);
+    assert!(rt; tree.kept == 7 && tree.root.own == 1 && tree.root.ceiling == 1);
     let mut folded = table();
     let root = Root { own: 7, ceiling: 0 };
     let tree = sweep_tree(&Octets, &mut folded, root, 2);
     assert!(rt; tree.kept == 7 && tree.root.own == 8 && tree.root.ceiling == 1);
     check_front(&rt, &walked, &AFTER);
+    check_front(&rt, &bare, &AFTER);
     check_front(&rt, &folded, &AFTER);
 }

@@ -1,6 +1,8 @@
-// Folding light nodes into their parents, level by level from the deepest to the first. One walk over the table settles a
-// level: in name order a node's parent is the last node before it of the level above, and something lies beneath a node
-// exactly when the next node has more steps. The nodes that stay move to the front as the walk goes on.
+// Folding light nodes into their parents, in two ways. `sweep_tree`, here, folds level by level from the deepest to the first;
+// its contract says what a sweep is defined to leave, and a summary sweeps by it. One walk over the table settles a level: in
+// name order a node's parent is the last node before it of the level above, and something lies beneath a node exactly when the
+// next node has more steps. The nodes that stay move to the front as the walk goes on. `sweep_nodes`, in the module settling,
+// settles a whole table in one walk, and promises no more than how many nodes stay at most.
 #![tactic(auto)]
 
 ghost use Rattle.std.specs.Prelude.{◌≡◌, ℕ, ◌+◌, ◌<◌, ◌≤◌, length, take, drop, nat_lt};
@@ -10,8 +12,11 @@ ghost use Rattle.model.specs.Table.{run_of};
 ghost use Rattle.model.specs.Sound.{SoundTree};
 ghost use Rattle.sweep.specs.Handing.{Within, HandedUp};
 
+mod settling;
+
 use model::{Node, Root};
 use prefix::Hierarchy;
+pub use settling::{Swept, sweep_nodes};
 
 // What is left: how many nodes stay, at the front of the table, and the root's figures.
 #[derive(Clone, Copy)]

@@ -1,10 +1,10 @@
 -- Climbing from a key to its nearest stored ancestor.
-use Rattle.std.proofs.Common.{◌≡◌, ℕ, zero, suc, ◌+◌, ◌-◌, ◌<◌, true, false, List, ◌∷◌, ◌++◌, length, get_or, take, drop, Ok, Err, Some, None, refl, sym, ap, ◌∙◌, subst, arith}
+use Rattle.std.proofs.Common.{◌≡◌, ℕ, zero, suc, ◌+◌, ◌-◌, ◌<◌, ◌≤◌, true, false, List, ◌∷◌, ◌++◌, length, get_or, take, drop, Ok, Err, Some, None, refl, sym, ap, ◌∙◌, subst, arith}
 use Rattle.std.specs.List.{HoldsAt}
-use Rattle.std.proofs.lemmas.List.{take-append-drop, drop_more}
+use Rattle.std.proofs.lemmas.List.{take-append-drop, take_all, drop_more}
 use Rattle.prefix.specs.Name.{Name}
 use Rattle.prefix.specs.Meaning.{Meaning}
-use Rattle.prefix.proofs.Names.{Climbed, climbed_more}
+use Rattle.prefix.proofs.Names.{Climbed, climbed_more, ancestry_laws}
 use Rattle.model.specs.declared.Node.{Node}
 use Rattle.model.specs.declared.Root.{Root}
 use Rattle.model.specs.State.{Tree}
@@ -16,7 +16,7 @@ use Rattle.model.proofs.Names.{none_missing}
 use Rattle.model.proofs.Nodes.{node_at, no_node}
 use Rattle.model.proofs.Among.{present_from_among}
 use Rattle.model.specs.Table.{count_before}
-use Rattle.table.proofs.Positions.{among_names}
+use Rattle.table.proofs.Positions.{among_names, count_above}
 
 -- a root of which only the ceiling is known
 abbrev pub bare : ℕ → Root
@@ -67,6 +67,20 @@ module _ {K : Type 0} (m : Meaning K) (root : Root) (stored : List (Node K)) whe
                 sym (ceiling_more p k gone) ∙ ap (ceiling_up m tree p) (sym more) ∙ (was.counted f).1,
               );
         }
+
+    -- what is known of the place of a name on the way up, from the place of the key's own
+    pub known_above : (own i : ℕ) (up : K) → Passed i up → own ≤ length stored → (Sorted (names_of m stored) → own ≡ count_before (names_of m stored) (m.name_of key)) → (own ≤ length stored) × (Sorted (names_of m stored) → (count_before (names_of m stored) (m.name_of up) ≤ own) × (i ≡ 0 → own ≡ count_before (names_of m stored) (m.name_of up)))
+    known_above own i up was h place =
+        let p : Name = m.name_of key in
+        let qs : List Name = names_of m stored in
+        let k : ℕ = length p - i in (
+          h,
+          λ s.
+              let fewer = count_above qs (take k p) p (ancestry_laws.front_covers k p) in (
+                rw was.climbed (omega (arith, place s, fewer)),
+                λ none. place s ∙ ap (count_before qs) (sym (was.climbed ∙ take_all k p (omega (arith, none)))),
+              ),
+        )
 
     -- the first name that is stored
     ancestors_found : (at i j : ℕ) (up : K) (d : Node K) → Passed i up → i < length (m.name_of key) → j < length stored → HoldsAt (λ n. name_at m n ≡ m.name_of up) stored j → (Sorted (names_of m stored) → at ≡ count_before (names_of m stored) (m.name_of key)) → Formed (names_of m stored) → Ancestors m stored key root (record { missing = i; at = at; nearest = Some j; ceiling = (get_or stored j d).ceiling })

@@ -79,8 +79,8 @@ fn push_row(text: &mut String, path: &[u8], row: Row<Place>) -> Result<(), Alloc
     writeln!(text, " {} {} {}", row.lower, row.upper, row.discounted)
 }
 
-// Adds all rows of a listing. There is at most one for each slot, and the root's. A chain of `successors` says it shorter, but
-// a closure that holds the listing beside rows with a ghost field gets no proof.
+// Adds all rows of a listing. There is at most one for each slot, and the root's. A chain of `successors` would say it shorter;
+// it was tried while a row had a ghost field, and had no proof then.
 fn push_rows(
     text: &mut String,
     paths: &Paths<'_>,

@@ -9,7 +9,7 @@ use std::test::Fail;
 // stored has the ceiling of the nearest stored ancestor.
 #[test]
 fn light_hosts_fold_into_their_ancestors(rt: HostRuntime) -> Result<(), Fail> {
-    definitions_give_the_worked_run();
+    assert_eq!(rt; definitions_give_the_worked_run(), (1, 3));
     run(
         &rt,
         &mut [vacant(); 64],
